@@ -1,0 +1,9 @@
+pub mod Splices
+pub mod Sums
+pub mod Building
+pub mod Reading
+pub mod Frames
+pub mod Writing
+pub mod RoundTrip
+pub mod Table
+pub mod Determined

@@ -1,0 +1,23 @@
+-- The rows of 01's table that are about blocks: each computes. Assumes nothing.
+use mathlib.Core.Path.{refl}
+use Rattle.header.specs.Bytes.{part}
+use Rattle.header.specs.Header.{headerBytes, headerOf}
+use Rattle.block.specs.Sum.{plainSum, checksumOf}
+use Rattle.block.specs.Block.{framed, lengthGood, writeOf, readOf, readSized}
+use Rattle.block.specs.Table.{BlockTable}
+
+pub block-table : BlockTable
+unfolding part headerBytes headerOf plainSum checksumOf framed lengthGood writeOf readOf readSized
+block-table = record {
+  sum-0105 = refl;
+  sum-0107 = refl;
+  sum-FD02 = refl;
+  writes-9 = refl;
+  writes-10 = refl;
+  writes-254 = refl;
+  writes-255 = refl;
+  reads-9 = refl;
+  reads-10 = refl;
+  reads-254 = refl;
+  reads-255 = refl;
+}

@@ -1,0 +1,80 @@
+-- What a write answers and leaves (`specs/Block.antt`). Assumes nothing.
+use Prim.Native.Nat.{ℕ, _+_, _-_, _≤_, _<_}
+use mathlib.Core.Path.{_≡_, refl, sym, ap, subst, _∙_}
+use mathlib.Core.Bool.{Bool, true, false, cond}
+use mathlib.Core.List.{List, _++_}
+use mathlib.Core.Logic.{_↔_}
+use native.Mathlib.Omega.{arith}
+use lib.Dec.{ltb}
+use lib.ListN.{length, take, drop, length-append, length-drop}
+use lib.Seq.{take-at, drop-at}
+use borrow.Author.Tests.{ltb-true, ltb-false}
+use Rattle.header.specs.Header.{headerBytes}
+use Rattle.header.specs.declared.header.Header.{Header}
+use Rattle.block.specs.Output.{onFront}
+use Rattle.block.specs.Sum.{checksumOf}
+use Rattle.block.specs.Block.{framed, blockOf, GoodLength, lengthGood, Writing, writing, writtenNumber, writeOf}
+use Rattle.block.specs.Theorems.{WriteTable, WriteRefuses, RefusedWritesNothing, WritesOnly, TakenWrites}
+use Rattle.block.specs.declared.refusal.Refusal.the-variants.{OutputShort, BlockLength}
+use Rattle.block.specs.declared.codec.Written.the-variants.{Bytes as Taken, Refused as NotWritten}
+use Rattle.block.proofs.Frames.{frame-length}
+use Rattle.block.proofs.Reading.{by-length}
+
+-- the three answers to a write
+pub by-writing : (n : ℕ) (h : Header) (d out : List ℕ) (P : Writing → Type 0) → (length out < 257 → P (writing (NotWritten OutputShort) out))
+    → (257 ≤ length out → (GoodLength n (10 + length d) → ⊥) → P (writing (NotWritten BlockLength) out))
+    → (257 ≤ length out → GoodLength n (10 + length d) → P (writing (Taken (n + 3)) (onFront (blockOf h d) out))) → P (writeOf n h d out)
+unfolding writeOf
+by-writing n h d out P short bad good = by (ltb (length out) 257) refl
+  where
+    taken : Writing
+    taken = writing (Taken (n + 3)) (onFront (blockOf h d) out)
+
+    refused : Writing
+    refused = writing (NotWritten BlockLength) out
+
+    by : (t : Bool) → ltb (length out) 257 ≡ t → P (cond t (writing (NotWritten OutputShort) out) (cond (lengthGood n (10 + length d)) taken refused))
+    by true e = short (ltb-true _ _ e)
+    by false e = by-length n (10 + length d) (λ t. P (cond t taken refused)) (good (ltb-false _ _ e)) (bad (ltb-false _ _ e))
+
+pub write-table : WriteRefuses
+write-table n h d out = record {
+  one = by-writing n h d out (λ w. (writtenNumber (w .answer) ≡ 1) ↔ (length out < 257))
+      (λ s. (λ e. s, λ l. refl)) (λ l b. (λ e. absurd (omega arith), λ s. absurd (omega arith))) (λ l g. (λ e. absurd (omega arith), λ s. absurd (omega arith)));
+  twelve = by-writing n h d out (λ w. (writtenNumber (w .answer) ≡ 12) ↔ ((257 ≤ length out) × (GoodLength n (10 + length d) → ⊥)))
+      (λ s. (λ e. absurd (omega arith), λ w. absurd (omega (arith, w .0)))) (λ l b. (λ e. (l, b), λ w. refl)) (λ l g. (λ e. absurd (omega arith), λ w. absurd (w .1 g)));
+  thirteen = by-writing n h d out (λ w. writtenNumber (w .answer) ≡ 13 → ⊥) (λ s e. omega arith) (λ l b e. omega arith) (λ l g e. omega arith);
+  taken = by-writing n h d out (λ w. (w .answer ≡ Taken (n + 3)) ↔ ((257 ≤ length out) × GoodLength n (10 + length d)))
+      (λ s. (λ e. absurd (omega (arith, ap writtenNumber e)), λ w. absurd (omega (arith, w .0))))
+      (λ l b. (λ e. absurd (omega (arith, ap writtenNumber e)), λ w. absurd (b (w .1))))
+      (λ l g. (λ e. (l, g), λ w. refl));
+}
+
+pub refused-writes-nothing : RefusedWritesNothing
+refused-writes-nothing n h d out r =
+    by-writing n h d out (λ w. w .answer ≡ NotWritten r → w .out ≡ out) (λ s e. refl) (λ l b e. refl) (λ l g e. let z : _≡_ {A = ℕ} 0 1 = cc in absurd (omega arith))
+
+-- a taken write had a good length
+pub taken-good : (n m : ℕ) (h : Header) (d out : List ℕ) → writeOf n h d out .answer ≡ Taken m → GoodLength n (10 + length d)
+taken-good n m h d out =
+    by-writing n h d out (λ w. w .answer ≡ Taken m → GoodLength n (10 + length d))
+    (λ s e. absurd (omega (arith, ap writtenNumber e))) (λ l b e. absurd (omega (arith, ap writtenNumber e))) (λ l g e. g)
+
+-- a block of n bytes is n + 3 on the line
+pub block-length : (n : ℕ) (h : Header) (d : List ℕ) → GoodLength n (10 + length d) → length (blockOf h d) ≡ n + 3
+unfolding framed headerBytes
+block-length n h d g = omega (arith, frame-length (headerBytes h ++ d) (checksumOf (headerBytes h ++ d)), length-append (headerBytes h) d)
+
+pub taken-writes : TakenWrites
+unfolding onFront
+taken-writes n m h d out =
+    by-writing n h d out (λ w. w .answer ≡ Taken m → WritesOnly h d out (w .out) m)
+    (λ s e. absurd (omega (arith, ap writtenNumber e))) (λ l b e. absurd (omega (arith, ap writtenNumber e))) good
+  where
+    p : List ℕ
+    p = blockOf h d
+
+    good : 257 ≤ length out → GoodLength n (10 + length d) → Taken (n + 3) ≡ Taken m → WritesOnly h d out (onFront p out) m
+    good l g e =
+        let size : length p ≡ m = block-length n h d g ∙ cc in
+        record { block = take-at p (drop (length p) out) m size; beyond = drop-at p (drop (length p) out) m size ∙ ap (λ (k : ℕ). drop k out) size; whole = omega (arith, block-length n h d g, length-append p (drop (length p) out), length-drop (length p) out) }

@@ -1,0 +1,6 @@
+pub mod Bytes
+pub mod Header
+pub mod Cut
+pub mod Theorems
+pub mod Table
+pub mod Determined

@@ -1,0 +1,79 @@
+// The ten header bytes (E4 6) and what they say.
+ghost use mathlib.Core.Path.{_≡_};
+ghost use Prim.Native.Nat.{_≤_};
+ghost use Rattle.header.specs.Header.{headerBytes, headerOf, numberedOf, topBit};
+use crate::number::pair;
+use crate::number::quad;
+
+// R-bit, device ID, W-bit, stream, function, E-bit, block number, and the four system bytes as one number, the
+// first of them its highest.
+pub struct Header {
+    pub r: bool,
+    pub device: u16,
+    pub w: bool,
+    pub stream: u8,
+    pub function: u8,
+    pub e: bool,
+    pub number: u16,
+    pub system: u32,
+}
+
+// A bit as the upper one of a byte.
+fn top_bit(on: bool) -> u8
+    ensures { λ r. ⌜ (r ≡ topBit on) × (r ≤ 128) ⌝ }
+{
+    if on { 128 } else { 0 }
+}
+
+impl Header {
+    // The ten bytes. A device ID and a block number have 15 bits there, a stream 7: what a field has above them
+    // does not go out.
+    pub fn bytes(self) -> [u8; 10]
+        ensures { λ r. ⌜ r ≡ headerBytes self ⌝ }
+    {
+        [
+            top_bit(self.r) + (self.device / 256 % 128) as u8,
+            (self.device % 256) as u8,
+            top_bit(self.w) + self.stream % 128,
+            self.function,
+            top_bit(self.e) + (self.number / 256 % 128) as u8,
+            (self.number % 256) as u8,
+            (self.system / 16777216 % 256) as u8,
+            (self.system / 65536 % 256) as u8,
+            (self.system / 256 % 256) as u8,
+            (self.system % 256) as u8,
+        ]
+    }
+
+    // What ten bytes say. Any ten do.
+    pub fn from_bytes(b: [u8; 10]) -> Header
+        ensures { λ r. ⌜ r ≡ headerOf b ⌝ }
+    {
+        Header {
+            r: 128 <= b[0],
+            device: pair(b[0] % 128, b[1]),
+            w: 128 <= b[2],
+            stream: b[2] % 128,
+            function: b[3],
+            e: 128 <= b[4],
+            number: pair(b[4] % 128, b[5]),
+            system: quad(b[6], b[7], b[8], b[9]),
+        }
+    }
+
+    // The same header at another block of its message: its number, and E where it is the last.
+    pub fn numbered(self, number: u16, last: bool) -> Header
+        ensures { λ r. ⌜ r ≡ numberedOf self number last ⌝ }
+    {
+        Header {
+            r: self.r,
+            device: self.device,
+            w: self.w,
+            stream: self.stream,
+            function: self.function,
+            e: last,
+            number: number,
+            system: self.system,
+        }
+    }
+}
