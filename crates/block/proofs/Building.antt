@@ -1,3 +1,4 @@
+use Rattle.wire.specs.Bytes.{halvesOf}
 -- The four writes of a block: length byte, header, data, sum. Assumes nothing.
 use Prim.Native.Nat.{ℕ, _+_}
 use mathlib.Core.Path.{_≡_, refl, ap, _∙_}
@@ -5,16 +6,16 @@ use mathlib.Core.List.{List, [], _∷_, _++_}
 use native.Mathlib.Omega.{arith}
 use lib.ListN.{length, length-append}
 use Rattle.block.specs.Output.{splice, onFront}
-use Rattle.block.specs.Sum.{checksumOf, sumBytes}
+use Rattle.wire.specs.Sum.{checksumOf}
 use Rattle.block.specs.Block.{framed}
 use Rattle.block.proofs.Splices.{front-more}
 
-pub built : (h d out a b c e first last : List ℕ) → length h ≡ 10 → first ≡ length (h ++ d) ∷ [] → last ≡ sumBytes (checksumOf (h ++ d))
+pub built : (h d out a b c e first last : List ℕ) → length h ≡ 10 → first ≡ length (h ++ d) ∷ [] → last ≡ halvesOf (checksumOf (h ++ d))
     → a ≡ splice out 0 first → b ≡ splice a 1 h → c ≡ splice b 11 d → e ≡ splice c (10 + length d + 1) last → e ≡ onFront (framed (h ++ d)) out
 unfolding framed onFront
 built h d out a b c e first last ten f l p q r s =
     let x : List ℕ = length (h ++ d) ∷ [] in
-    let t : List ℕ = sumBytes (checksumOf (h ++ d)) in
+    let t : List ℕ = halvesOf (checksumOf (h ++ d)) in
     let m = length-append h d in
     let p′ : a ≡ onFront x out = p ∙ ap (splice out 0) f ∙ front-more out [] x 0 refl in
     let q′ : b ≡ onFront (x ++ h) out = q ∙ rw p′ (front-more out x h 1 refl) in

@@ -2,14 +2,10 @@
 -- Assumes nothing.
 use mathlib.Core.Path.{sym, _∙_}
 use denote.Ref.{now}
-use Rattle.header.specs.Determined.{Determined}
 use Rattle.block.specs.Block.{writing}
+use Rattle.wire.specs.Determined.{Determined}
 use Rattle.block.proofs.refusal.Refusal.number.Reads as number-reads
 use Rattle.block.proofs.refusal.Refusal.number.Kinds as number-kinds
-use Rattle.block.proofs.sum.sum_with.Reads as sum-with-reads
-use Rattle.block.proofs.sum.sum_with.Kinds as sum-with-kinds
-use Rattle.block.proofs.sum.checksum.Reads as checksum-reads
-use Rattle.block.proofs.sum.checksum.Kinds as checksum-kinds
 use Rattle.block.proofs.codec.write_block.Reads as write-block-reads
 use Rattle.block.proofs.codec.write_block.Kinds as write-block-kinds
 use Rattle.block.proofs.codec.read_block.Reads as read-block-reads
@@ -19,12 +15,6 @@ use Rattle.block.proofs.codec.block_data.Kinds as block-data-kinds
 
 pub number-determined : Determined 0 number-kinds.ps number-kinds.r number-reads.Asked number-reads.Post (λ κs r s. r)
 number-determined κs a = (tt, λ x y s t p q. p ∙ sym q)
-
-pub sum-with-determined : Determined 0 sum-with-kinds.ps sum-with-kinds.r sum-with-reads.Asked sum-with-reads.Post (λ κs r s. r)
-sum-with-determined κs a = (tt, λ x y s t p q. p ∙ sym q)
-
-pub checksum-determined : Determined 1 checksum-kinds.ps checksum-kinds.r checksum-reads.Asked checksum-reads.Post (λ κs r s. r)
-checksum-determined κs a = (tt, λ x y s t p q. p ∙ sym q)
 
 pub write-block-determined : Determined 2 write-block-kinds.ps write-block-kinds.r write-block-reads.Asked write-block-reads.Post (λ κs r s. writing r (now (s .1 .1 .1 .0)))
 write-block-determined κs a = (tt, λ x y s t p q. p ∙ sym q)

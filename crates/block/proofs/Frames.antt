@@ -1,27 +1,27 @@
 -- What stands where in a block: length byte, the bytes, the sum. Assumes nothing.
 use Prim.Native.Nat.{ℕ, _+_, _-_, _/_, _%_, _≤_}
-use mathlib.Core.Path.{_≡_, refl, sym, ap, _∙_}
-use mathlib.Core.List.{List, [], _∷_, _++_}
+use mathlib.Core.Path.{_≡_, _∙_}
+use mathlib.Core.List.{List, _∷_}
 use native.Mathlib.Omega.{arith}
 use lib.ListN.{length, getD, length-append}
 use lib.Seq.{take-at, getD-append-add}
-use Rattle.header.specs.Bytes.{part, pairOf}
-use Rattle.block.specs.Sum.{sumBytes}
+use Rattle.wire.specs.Bytes.{part, pairOf}
+use Rattle.wire.specs.Bytes.{halvesOf}
 use Rattle.block.specs.Block.{GoodLength, withSum}
 
 module _ (bs : List ℕ) (s : ℕ) where
   pub frame-length : length (withSum bs s) ≡ length bs + 3
-  frame-length = omega (arith, length-append bs (sumBytes s))
+  frame-length = omega (arith, length-append bs (halvesOf s))
 
   pub frame-body : part 1 (length bs + 1) (withSum bs s) ≡ bs
   unfolding part
-  frame-body = take-at bs (sumBytes s) (length bs + 1 - 1) (omega arith)
+  frame-body = take-at bs (halvesOf s) (length bs + 1 - 1) (omega arith)
 
   -- byte k of the sum
-  sum-byte : (k : ℕ) → getD (withSum bs s) (length bs + (1 + k)) 0 ≡ getD (sumBytes s) k 0
+  sum-byte : (k : ℕ) → getD (withSum bs s) (length bs + (1 + k)) 0 ≡ getD (halvesOf s) k 0
   sum-byte k =
       let at : length bs + (1 + k) ≡ length (length bs ∷ bs) + k = omega arith in
-      rw at (getD-append-add (length bs ∷ bs) (sumBytes s) k 0)
+      rw at (getD-append-add (length bs ∷ bs) (halvesOf s) k 0)
 
   pub frame-sum : pairOf (getD (withSum bs s) (length bs + 1) 0) (getD (withSum bs s) (length bs + 2) 0) ≡ s
   frame-sum = (λ k. pairOf (sum-byte 0 k) (sum-byte 1 k)) ∙ whole

@@ -1,5 +1,4 @@
 pub mod Splices
-pub mod Sums
 pub mod Building
 pub mod Reading
 pub mod Frames

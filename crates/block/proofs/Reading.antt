@@ -1,5 +1,5 @@
 -- What a block alone reads as (`specs/Block.antt`), and by what it is refused. Assumes nothing.
-use Prim.Native.Nat.{ℕ, _+_, _-_, _≤_, _<_}
+use Prim.Native.Nat.{ℕ, _+_, _-_, _<_}
 use mathlib.Core.Path.{_≡_, refl, sym, ap, subst, _∙_}
 use mathlib.Core.Bool.{Bool, true, false, cond, _&&_, and-eq-true-iff, false≢true}
 use mathlib.Core.List.{List}
@@ -8,12 +8,12 @@ use native.Mathlib.Omega.{arith}
 use lib.Dec.{leb, eqb}
 use lib.ListN.{length, getD}
 use borrow.Author.Tests.{leb-true, le-leb, eqb-true, eqb-false, eq-eqb}
-use Rattle.header.specs.Bytes.{part, pairOf}
+use Rattle.wire.specs.Bytes.{part, pairOf}
 use Rattle.header.specs.Header.{headerOf}
 use Rattle.header.specs.declared.header.Header.{Header}
-use Rattle.block.specs.Sum.{checksumOf}
-use Rattle.block.specs.Block.{GoodLength, lengthGood, readNumber, readOf, readSized}
-use Rattle.block.specs.Theorems.{GoodBlock, ReadTable, ReadRefuses}
+use Rattle.wire.specs.Sum.{checksumOf}
+use Rattle.block.specs.Block.{GoodLength, lengthGood, readNumber, sumsAgree, readSized, readOf}
+use Rattle.block.specs.Theorems.{GoodBlock, ReadRefuses}
 use Rattle.block.specs.declared.refusal.Refusal.the-variants.{BlockLength, ChecksumDiffers}
 use Rattle.block.specs.declared.codec.Read.{Read}
 use Rattle.block.specs.declared.codec.Read.the-variants.{Block, Refused}
@@ -41,6 +41,15 @@ by-length n given P good bad = by (lengthGood n given) refl
 abbrev Agree : List ℕ → ℕ → Type 0
 Agree line n = checksumOf (part 1 (n + 1) line) ≡ pairOf (getD line (n + 1) 0) (getD line (n + 2) 0)
 
+-- they do, or they do not
+by-sums : (line : List ℕ) (n : ℕ) (P : Bool → Type 0) → (Agree line n → P true) → ((Agree line n → ⊥) → P false) → P (sumsAgree line n)
+unfolding sumsAgree
+by-sums line n P agree differ = by (sumsAgree line n) refl
+  where
+    by : (t : Bool) → sumsAgree line n ≡ t → P t
+    by true e = agree (eqb-true _ _ e)
+    by false e = differ (eqb-false _ _ e)
+
 -- the three answers to a read
 pub by-reading : (line : List ℕ) (P : Read → Type 0) → ((GoodLength (getD line 0 0) (length line - 3) → ⊥) → P (Refused BlockLength))
     → (GoodLength (getD line 0 0) (length line - 3) → (Agree line (getD line 0 0) → ⊥) → P (Refused ChecksumDiffers))
@@ -48,20 +57,12 @@ pub by-reading : (line : List ℕ) (P : Read → Type 0) → ((GoodLength (getD 
     → P (readOf line)
 unfolding readOf readSized
 by-reading line P bad differ agree =
-    by-length n (length line - 3) (λ t. P (cond t (readSized line n) (Refused BlockLength))) (λ g. by g (eqb worked received) refl) bad
+    by-length n (length line - 3) (λ t. P (cond t (readSized line n) (Refused BlockLength)))
+    (λ g. by-sums line n (λ t. P (cond t (Block (headerOf (part 1 (n + 1) line)) n) (Refused ChecksumDiffers))) (agree g) (differ g))
+    bad
   where
     n : ℕ
     n = getD line 0 0
-
-    worked : ℕ
-    worked = checksumOf (part 1 (n + 1) line)
-
-    received : ℕ
-    received = pairOf (getD line (n + 1) 0) (getD line (n + 2) 0)
-
-    by : GoodLength n (length line - 3) → (t : Bool) → eqb worked received ≡ t → P (cond t (Block (headerOf (part 1 (n + 1) line)) n) (Refused ChecksumDiffers))
-    by g true e = agree g (eqb-true _ _ e)
-    by g false e = differ g (eqb-false _ _ e)
 
 -- a line that is too short for a sum
 pub read-short : (line : List ℕ) → length line < 3 → readOf line ≡ Refused BlockLength

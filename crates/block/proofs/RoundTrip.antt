@@ -1,27 +1,27 @@
 -- What is written reads back, and what was damaged does not. Assumes nothing.
-use Prim.Native.Nat.{ℕ, zero, suc, _+_, _-_, _*_, _/_, _%_, _^_, _≤_, _<_}
+use Prim.Native.Nat.{ℕ, zero, suc, _+_, _-_, _/_, _%_, _^_, _≤_, _<_}
 use mathlib.Core.Path.{_≡_, refl, sym, ap, subst, _∙_}
 use mathlib.Core.Bool.{Bool, true, false, cond}
-use mathlib.Core.List.{List, [], _∷_, _++_, append-assoc}
+use mathlib.Core.List.{List, [], _∷_, _++_}
 use native.Mathlib.Omega.{arith}
 use lib.Dec.{eqb}
-use lib.ListN.{length, take, drop, getD, set, length-append, length-set}
+use lib.ListN.{length, take, getD, set, length-append, length-set}
 use lib.Pow.{pow-pos}
 use native.Mathlib.Nat.{zero-div}
-use lib.Seq.{take-at, drop-at}
-use borrow.Author.Tests.{eqb-true, eqb-false}
-use Rattle.header.specs.Bytes.{Bytes, part, pairOf}
+use lib.Seq.{take-at}
+use borrow.Author.Tests.{eqb-false}
+use Rattle.wire.specs.Bytes.{Bytes, part, halvesOf}
 use Rattle.header.specs.Header.{InRange, headerBytes, headerOf}
 use Rattle.header.specs.declared.header.Header.{Header}
 use Rattle.header.proofs.Headers.{header-and-back}
-use Rattle.block.specs.Sum.{plainSum, checksumOf, sumBytes}
-use Rattle.block.specs.Block.{withSum, framed, blockOf, GoodLength, readOf, dataIn, writeOf, Writing}
+use Rattle.wire.specs.Sum.{plainSum, checksumOf}
+use Rattle.block.specs.Block.{withSum, framed, blockOf, GoodLength, readOf, dataIn, writeOf}
 use Rattle.block.specs.Theorems.{GoodBlock, ReadOfWritten, OtherSum, OneSumBit, OneByte, flipped}
 use Rattle.block.specs.declared.refusal.Refusal.the-variants.{ChecksumDiffers}
 use Rattle.block.specs.declared.codec.Read.{Read}
 use Rattle.block.specs.declared.codec.Read.the-variants.{Block, Refused}
 use Rattle.block.proofs.Frames.{frame-body, frame-sum, frame-good}
-use Rattle.block.proofs.Sums.{sum-never-wraps}
+use Rattle.wire.proofs.Sums.{sum-never-wraps}
 use Rattle.block.proofs.Reading.{by-reading, reads-as}
 use Rattle.block.proofs.Writing.{taken-good, taken-writes}
 
@@ -48,7 +48,7 @@ module _ (n : ℕ) (h : Header) (d : List ℕ) (range : InRange h) (g : GoodLeng
 
   pub data-back : part 11 (n + 1) (blockOf h d) ≡ d
   unfolding framed part headerBytes
-  data-back = take-at d (sumBytes (checksumOf (headerBytes h ++ d))) (n + 1 - 11) (omega arith)
+  data-back = take-at d (halvesOf (checksumOf (headerBytes h ++ d))) (n + 1 - 11) (omega arith)
 
 pub read-of-written : ReadOfWritten
 read-of-written n m h d out range e =

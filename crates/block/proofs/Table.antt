@@ -1,13 +1,13 @@
 -- The rows of 01's table that are about blocks: each computes. Assumes nothing.
 use mathlib.Core.Path.{refl}
-use Rattle.header.specs.Bytes.{part}
+use Rattle.wire.specs.Bytes.{part}
 use Rattle.header.specs.Header.{headerBytes, headerOf}
-use Rattle.block.specs.Sum.{plainSum, checksumOf}
-use Rattle.block.specs.Block.{framed, lengthGood, writeOf, readOf, readSized}
+use Rattle.wire.specs.Sum.{plainSum, checksumOf}
+use Rattle.block.specs.Block.{framed, outputShort, lengthGood, writeOf, sumsAgree, readSized, readOf}
 use Rattle.block.specs.Table.{BlockTable}
 
 pub block-table : BlockTable
-unfolding part headerBytes headerOf plainSum checksumOf framed lengthGood writeOf readOf readSized
+unfolding part headerBytes headerOf plainSum checksumOf framed outputShort lengthGood writeOf sumsAgree readSized readOf
 block-table = record {
   sum-0105 = refl;
   sum-0107 = refl;

@@ -5,9 +5,9 @@ use mathlib.Core.Bool.{Bool, cond, _&&_}
 use mathlib.Core.List.{List, [], _∷_, _++_}
 use lib.Dec.{eqb, leb, ltb}
 use lib.ListN.{length, getD}
-use Rattle.header.specs.Bytes.{part, pairOf}
+use Rattle.wire.specs.Bytes.{part, pairOf, halvesOf}
 use Rattle.block.specs.Output.{onFront}
-use Rattle.block.specs.Sum.{checksumOf, sumBytes}
+use Rattle.wire.specs.Sum.{checksumOf}
 use Rattle.header.specs.Header.{headerBytes, headerOf}
 use Rattle.header.specs.declared.header.Header.{Header}
 use Rattle.block.specs.Refusal.{refusalNumber}
@@ -19,7 +19,7 @@ use Rattle.block.specs.declared.codec.Written.the-variants.{Bytes, Refus
 
 -- N bytes on the line, between their length byte and a sum
 abbrev pub withSum : List ℕ → ℕ → List ℕ
-withSum bs s = length bs ∷ (bs ++ sumBytes s)
+withSum bs s = length bs ∷ (bs ++ halvesOf s)
 
 -- "A block on the line: length N (10 to 254), N bytes, then the 16-bit sum of those N bytes, high byte first."
 unfoldable pub framed : List ℕ → List ℕ
@@ -28,6 +28,10 @@ framed bs = withSum bs (checksumOf bs)
 -- the block of a header and data
 abbrev pub blockOf : Header → List ℕ → List ℕ
 blockOf h d = framed (headerBytes h ++ d)
+
+-- refusal 1 is given exactly when this is true: "output buffer under 257 bytes"
+unfoldable pub outputShort : List ℕ → Bool
+outputShort out = ltb (length out) 257
 
 -- refusal 12 is given exactly when this is false: "block length outside 10 to 254, or not the bytes given"
 unfoldable pub lengthGood : ℕ → ℕ → Bool
@@ -60,16 +64,17 @@ readNumber (Refused r) = refusalNumber r
 -- was; a taken one answers the bytes it wrote, length byte and sum included, and changes no byte beyond them.
 unfoldable pub writeOf : ℕ → Header → List ℕ → List ℕ → Writing
 writeOf n h d out =
-    cond (ltb (length out) 257) (writing (NotWritten OutputShort) out)
+    cond (outputShort out) (writing (NotWritten OutputShort) out)
     (cond (lengthGood n (10 + length d)) (writing (Bytes (n + 3)) (onFront (blockOf h d) out)) (writing (NotWritten BlockLength) out))
 
--- Reading a block of length N as it stood on the line: the N bytes behind its length byte, then the two bytes of its sum,
--- received and worked out: "13 checksum differs". A good block gives its header and N.
+-- refusal 13 is given exactly when this is false: the sum of the N bytes behind the length byte is the one received behind
+-- those, its high byte first
+unfoldable pub sumsAgree : List ℕ → ℕ → Bool
+sumsAgree line n = eqb (checksumOf (part 1 (n + 1) line)) (pairOf (getD line (n + 1) 0) (getD line (n + 2) 0))
+
+-- Reading a block whose length N is good, as it stood on the line. A good block gives its header and N.
 unfoldable pub readSized : List ℕ → ℕ → Read
-readSized line n =
-    cond (eqb (checksumOf (part 1 (n + 1) line)) (pairOf (getD line (n + 1) 0) (getD line (n + 2) 0)))
-    (Block (headerOf (part 1 (n + 1) line)) n)
-    (Refused ChecksumDiffers)
+readSized line n = cond (sumsAgree line n) (Block (headerOf (part 1 (n + 1) line)) n) (Refused ChecksumDiffers)
 
 -- Reading a block alone, its length byte first: "12, 13 (reading only)". All that is given but the length byte and the sum
 -- is header and data.

@@ -1,11 +1,11 @@
 -- The rows of 01's proved table ("Bench program and proved table") that are about blocks.
 use Prim.Native.Nat.{ℕ}
 use mathlib.Core.Path.{_≡_}
-use mathlib.Core.List.{List, [], _∷_}
+use mathlib.Core.List.{[], _∷_}
 use lib.ListN.{replicate}
 use Rattle.header.specs.Header.{headerOf}
 use Rattle.header.specs.Table.{primary, reply}
-use Rattle.block.specs.Sum.{checksumOf}
+use Rattle.wire.specs.Sum.{checksumOf}
 use Rattle.block.specs.Block.{blockOf, writeOf, readOf}
 use Rattle.block.specs.declared.refusal.Refusal.the-variants.{BlockLength}
 use Rattle.block.specs.declared.codec.Read.the-variants.{Block, Refused}

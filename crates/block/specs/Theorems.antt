@@ -1,28 +1,20 @@
 -- What is proved of the definitions of this crate, over all inputs. Each proof is in `proofs/`.
-use Prim.Native.Nat.{ℕ, _+_, _-_, _*_, _/_, _%_, _^_, _≤_, _<_}
+use Prim.Native.Nat.{ℕ, _+_, _-_, _/_, _%_, _^_, _≤_, _<_}
 use mathlib.Core.Path.{_≡_}
 use mathlib.Core.Bool.{cond}
-use mathlib.Core.List.{List, [], _∷_, _++_}
+use mathlib.Core.List.{List}
 use mathlib.Core.Logic.{_↔_}
 use lib.Dec.{eqb}
 use lib.ListN.{length, take, drop, getD, set}
-use Rattle.header.specs.Bytes.{Bytes, part, pairOf}
+use Rattle.wire.specs.Bytes.{Bytes, part, pairOf}
 use Rattle.header.specs.Header.{InRange, headerOf}
 use Rattle.header.specs.declared.header.Header.{Header}
-use Rattle.block.specs.Sum.{plainSum, checksumOf, sumWith}
+use Rattle.wire.specs.Sum.{checksumOf}
 use Rattle.block.specs.Block.{withSum, blockOf, GoodLength, writtenNumber, writeOf, readNumber, readOf, dataIn}
 use Rattle.block.specs.declared.refusal.Refusal.{Refusal}
 use Rattle.block.specs.declared.refusal.Refusal.the-variants.{ChecksumDiffers}
 use Rattle.block.specs.declared.codec.Read.the-variants.{Block, Refused}
 use Rattle.block.specs.declared.codec.Written.the-variants.{Bytes as Taken, Refused as NotWritten}
-
--- 01: "The sum is at most 64,770 and never wraps."
-abbrev pub SumNeverWraps : Type 0
-SumNeverWraps = (bs : List ℕ) → Bytes bs → length bs ≤ 254 → (checksumOf bs ≡ plainSum bs) × (checksumOf bs ≤ 64770)
-
--- the sum can be kept byte by byte, from 0
-abbrev pub SumByByte : Type 0
-SumByByte = (checksumOf [] ≡ 0) × ((bs : List ℕ) (b : ℕ) → checksumOf (bs ++ (b ∷ [])) ≡ sumWith (checksumOf bs) b)
 
 -- Writing: each number of 01's table exactly when its row says so and no earlier one does, 0 for a block that is taken, and
 -- 13 never ("reading only").

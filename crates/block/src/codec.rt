@@ -4,13 +4,14 @@ ghost use Prim.Native.Nat.{_+_, _-_, _≤_};
 ghost use mathlib.Core.List.{_++_};
 ghost use lib.ListN.{length};
 ghost use Rattle.header.specs.Header.{firstTen};
-ghost use Rattle.header.specs.Bytes.{part};
+ghost use Rattle.wire.specs.Bytes.{part};
 ghost use Rattle.block.specs.Output.{onFront, splice};
 ghost use Rattle.block.specs.Block.{GoodLength, dataIn, framed, lengthGood, readOf, readSized, writeOf, writing};
 use crate::refusal::Refusal;
-use crate::sum::checksum;
 use header::Header;
-use header::pair;
+use wire::checksum;
+use wire::halves;
+use wire::pair;
 
 // What a write answers: how many bytes went out, length byte and sum included.
 pub enum Written {
@@ -53,7 +54,7 @@ fn put_block(header: [u8; 10], data: &[u8], out: &mut [u8])
     let n = 10 + data.len();
     let sum = std::num::wrapping_add_u16(checksum(&header), checksum(data));
     let first = [(n % 256) as u8];
-    let last = [(sum / 256) as u8, (sum % 256) as u8];
+    let last = halves(sum);
     put(out, 0, &first);
     put(out, 1, &header);
     put(out, 11, data);
@@ -75,6 +76,7 @@ pub fn write_block(length: usize, header: Header, data: &[u8], out: &mut [u8]) -
     Written::Refused(Refusal::BlockLength)
 }
 
+// A length byte as a number of bytes.
 fn count(byte: u8) -> usize
     ensures { λ r. ⌜ r ≡ byte ⌝ }
 {

@@ -1,6 +1,6 @@
--- A header's fields and its ten bytes are each the other's. Assumes nothing.
-use Prim.Native.Nat.{ℕ, zero, suc, _+_, _*_, _/_, _%_, _≤_, _<_}
-use mathlib.Core.Path.{_≡_, refl, sym, ap, _∙_}
+-- A header's fields and its ten bytes are each the other's, and what another block number leaves. Assumes nothing.
+use Prim.Native.Nat.{ℕ, _+_, _/_, _%_, _<_}
+use mathlib.Core.Path.{_≡_, refl, sym, _∙_}
 use mathlib.Core.Bool.{Bool, true, false}
 use mathlib.Core.List.{List, [], _∷_}
 use native.Mathlib.Omega.{arith}
@@ -9,18 +9,20 @@ use lib.Dec.{leb}
 use lib.ListN.{length, take, getD}
 use lib.Seq.{take-all, take-suc}
 use borrow.Author.Tests.{le-leb, lt-leb, leb-true, leb-false}
-use Rattle.header.specs.Bytes.{Bytes, pairOf, quadOf}
-use Rattle.header.specs.Header.{InRange, topBit, firstTen, headerBytes, headerOf}
-use Rattle.header.specs.Theorems.{TenBytesAndBack, TenBytesInRange, HeaderAndBack, HeaderIsTenBytes}
+use Rattle.wire.specs.Bytes.{pairOf}
+use Rattle.header.specs.Header.{topBit, quadOf, firstTen, headerBytes, headerOf}
+use Rattle.header.specs.declared.header.Header.{Header}
+use Rattle.header.specs.Theorems.{TenBytesAndBack, TenBytesInRange, HeaderAndBack, NumberedKeeps}
 
--- a bit above seven others is read back, and so are they
-bit-back : (b : Bool) (x : ℕ) → x < 128 → (leb 128 (topBit b + x) ≡ b) × ((topBit b + x) % 128 ≡ x)
-bit-back true x h = (le-leb 128 (128 + x) (omega arith), omega arith)
-bit-back false x h = (lt-leb 128 (0 + x) (omega arith), omega arith)
+-- a bit above seven others is read back
+bit-back : (b : Bool) (x : ℕ) → leb 128 (topBit b + x % 128) ≡ b
+bit-back true x = le-leb 128 (128 + x % 128) (omega arith)
+bit-back false x = lt-leb 128 (0 + x % 128) (omega arith)
 
--- a 15-bit number under a bit is read back
-under-back : (b : Bool) (x : ℕ) → x < 32768 → pairOf ((topBit b + x / 256 % 128) % 128) (x % 256) ≡ x
-under-back b x h = omega (arith, bit-back b (x / 256 % 128) (omega arith) .1)
+-- and leaves those seven as they are
+top-apart : (b : Bool) → topBit b % 128 ≡ 0
+top-apart true = refl
+top-apart false = refl
 
 -- a 32-bit number is read back from its four bytes
 quad-back : (x : ℕ) → x < 4294967296 → quadOf (x / 16777216 % 256) (x / 65536 % 256) (x / 256 % 256) (x % 256) ≡ x
@@ -29,18 +31,36 @@ quad-back x h = rw (← div-div-eq-div-mul x 65536 256, ← div-div-eq-div-mul x
 pub header-and-back : HeaderAndBack
 unfolding headerOf headerBytes
 header-and-back h i = λ k. record {
-  r = bit-back (h .r) (h .device / 256 % 128) (omega arith) .0 k;
-  device = under-back (h .r) (h .device) (i .device) k;
-  w = bit-back (h .w) (h .stream % 128) (omega arith) .0 k;
-  stream = seven k;
+  r = r k;
+  device = device k;
+  w = w k;
+  stream = stream k;
   function = h .function;
-  e = bit-back (h .e) (h .number / 256 % 128) (omega arith) .0 k;
-  number = under-back (h .e) (h .number) (i .number) k;
+  e = e k;
+  number = number k;
   system = quad-back (h .system) (i .system) k;
 }
   where
-    seven : (topBit (h .w) + h .stream % 128) % 128 ≡ h .stream
-    seven = omega (arith, i .stream, bit-back (h .w) (h .stream % 128) (omega arith) .1)
+    back : Header
+    back = headerOf (headerBytes h)
+
+    r : back .r ≡ h .r
+    r = bit-back (h .r) _
+
+    w : back .w ≡ h .w
+    w = bit-back (h .w) _
+
+    e : back .e ≡ h .e
+    e = bit-back (h .e) _
+
+    device : back .device ≡ h .device
+    device = omega (arith, i .device, top-apart (h .r), top-apart (h .w), top-apart (h .e))
+
+    stream : back .stream ≡ h .stream
+    stream = omega (arith, i .stream, top-apart (h .r), top-apart (h .w), top-apart (h .e))
+
+    number : back .number ≡ h .number
+    number = omega (arith, i .number, top-apart (h .r), top-apart (h .w), top-apart (h .e))
 
 -- a byte's upper bit, with the other seven, is the byte
 byte-back : (x : ℕ) → x < 256 → topBit (leb 128 x) + x % 128 ≡ x
@@ -105,28 +125,5 @@ ten-bytes-in-range b f = record {
   system = omega (arith, f .at 6, f .at 7, f .at 8, f .at 9);
 }
 
--- a byte in front of bytes
-also : {x : ℕ} {l : List ℕ} → x < 256 → Bytes l → Bytes (x ∷ l)
-also {x} {l} h f = record { at = here }
-  where
-    here : (i : ℕ) → getD (x ∷ l) i 0 < 256
-    here zero = h
-    here (suc i) = f .at i
-
-none : Bytes []
-none = record { at = λ i. omega arith }
-
-rest : (x : ℕ) → x % 256 < 256
-rest x = omega arith
-
--- a bit above seven others is a byte
-top-byte : (b : Bool) (x : ℕ) → topBit b + x % 128 < 256
-top-byte true x = omega arith
-top-byte false x = omega arith
-
-pub header-is-ten-bytes : HeaderIsTenBytes
-unfolding headerBytes
-header-is-ten-bytes h f =
-    let tail : Bytes (h .number % 256 ∷ h .system / 16777216 % 256 ∷ h .system / 65536 % 256 ∷ h .system / 256 % 256 ∷ h .system % 256 ∷ []) =
-    also (rest _) (also (rest _) (also (rest _) (also (rest _) (also (rest _) none)))) in
-    (refl, also (top-byte (h .r) _) (also (rest _) (also (top-byte (h .w) _) (also f (also (top-byte (h .e) _) tail)))))
+pub numbered-keeps : NumberedKeeps
+numbered-keeps h k last = (refl, refl, record { r = refl; device = refl; w = refl; stream = refl; function = refl; system = refl })

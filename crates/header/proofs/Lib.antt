@@ -1,6 +1,5 @@
--- `Counts` has how many blocks a message makes.
-pub mod Counts
+-- `Headers`: a header's fields and its ten bytes are each the other's. `Table`: the headers of 01's listing. `Determined`:
+-- what each public contract determines.
 pub mod Headers
-pub mod Cutting
 pub mod Table
 pub mod Determined

@@ -1,10 +1,10 @@
 -- The header: ten bytes (E4 6; 01, "Block and header").
-use Prim.Native.Nat.{ℕ, _+_, _*_, _/_, _%_, _<_}
+use Prim.Native.Nat.{ℕ, _+_, _/_, _%_, _<_}
 use mathlib.Core.Bool.{Bool, true, false}
 use mathlib.Core.List.{List, [], _∷_}
 use lib.Dec.{leb}
 use lib.ListN.{getD}
-use Rattle.header.specs.Bytes.{pairOf, quadOf}
+use Rattle.wire.specs.Bytes.{pairOf}
 use Rattle.header.specs.declared.header.Header.{Header}
 
 -- a header whose fields have no more than their bits: 15 for the device ID and the block number, 7 for the stream,
@@ -20,6 +20,10 @@ pub record InRange (h : Header) : Type 0 where
 abbrev pub topBit : Bool → ℕ
 topBit true = 128
 topBit false = 0
+
+-- four bytes as one number, the highest first
+abbrev pub quadOf : ℕ → ℕ → ℕ → ℕ → ℕ
+quadOf a b c d = pairOf (pairOf (pairOf a b) c) d
 
 -- "R and upper device ID; lower device ID; W and stream (7 bits); function; E and upper block number; lower block
 -- number; four system bytes"

@@ -1,16 +1,12 @@
 -- What is proved of the definitions of this crate, over all inputs. Each proof is in `proofs/`.
-use Prim.Native.Nat.{ℕ, zero, suc, _+_, _-_, _*_, _≤_, _<_}
+use Prim.Native.Nat.{ℕ}
 use mathlib.Core.Path.{_≡_}
-use mathlib.Core.Bool.{Bool, true, false}
-use mathlib.Core.List.{List, [], _++_}
-use mathlib.Core.Logic.{_↔_}
+use mathlib.Core.Bool.{Bool}
+use mathlib.Core.List.{List}
 use lib.ListN.{length}
-use Rattle.header.specs.Bytes.{Bytes, part}
-use Rattle.header.specs.Header.{InRange, headerBytes, headerOf}
-use Rattle.header.specs.Cut.{blockCount, cutOf}
+use Rattle.wire.specs.Bytes.{Bytes}
+use Rattle.header.specs.Header.{InRange, headerBytes, headerOf, numberedOf}
 use Rattle.header.specs.declared.header.Header.{Header}
-use Rattle.header.specs.declared.cut.Cut.{Cut}
-use Rattle.header.specs.declared.cut.Cut.the-variants.{Block, NoBlock}
 
 -- every ten bytes are a header and back
 abbrev pub TenBytesAndBack : Type 0
@@ -20,54 +16,21 @@ TenBytesAndBack = (b : List ℕ) → length b ≡ 10 → Bytes b → headerBytes
 abbrev pub TenBytesInRange : Type 0
 TenBytesInRange = (b : List ℕ) → Bytes b → InRange (headerOf b)
 
--- a header in range is ten bytes, each of them a byte, and back
+-- a header in range is ten bytes and back
 abbrev pub HeaderAndBack : Type 0
 HeaderAndBack = (h : Header) → InRange h → headerOf (headerBytes h) ≡ h
 
-abbrev pub HeaderIsTenBytes : Type 0
-HeaderIsTenBytes = (h : Header) → h .function < 256 → (length (headerBytes h) ≡ 10) × Bytes (headerBytes h)
+-- all that two headers of one message share: "all else in the header is the same in each"
+pub record SameElse (a b : Header) : Type 0 where
+  pub r : a .r ≡ b .r
+  pub device : a .device ≡ b .device
+  pub w : a .w ≡ b .w
+  pub stream : a .stream ≡ b .stream
+  pub function : a .function ≡ b .function
+  pub system : a .system ≡ b .system
 
--- c blocks hold n bytes at 244 bytes each, and no fewer do: those before the last leave it a byte, if there is one
-pub record FewestBlocks (n c : ℕ) : Type 0 where
-  pub some : 1 ≤ c
-  pub enough : n ≤ c * 244
-  pub fewest : (c - 1) * 244 ≤ n - 1
-
-abbrev pub CountIsFewest : Type 0
-CountIsFewest = (n : ℕ) → FewestBlocks n (blockCount n)
-
--- Cutting a message of n bytes with header h gives blocks 1 to `blockCount n`, in so far as they have a number of E4
--- (up to 32,767), and no others.
-abbrev pub CutNumbers : Type 0
-CutNumbers = (h : Header) (n k : ℕ) → (cutOf h n k ≡ NoBlock → ⊥) ↔ ((1 ≤ k) × (k ≤ blockCount n) × (k ≤ 32767))
-
--- What block k of a message of n bytes with header h is, where there is one.
-pub record BlockOfMessage (h : Header) (n k : ℕ) (of : Header) (start size : ℕ) : Type 0 where
-  pub number : of .number ≡ k
-  pub last-alone : (of .e ≡ true) ↔ (k ≡ blockCount n)
-  pub same-r : of .r ≡ h .r
-  pub same-device : of .device ≡ h .device
-  pub same-w : of .w ≡ h .w
-  pub same-stream : of .stream ≡ h .stream
-  pub same-function : of .function ≡ h .function
-  pub same-system : of .system ≡ h .system
-  pub filled : k < blockCount n → size ≡ 244
-  pub most : size ≤ 244
-  pub within : start + size ≤ n
-
-abbrev pub CutBlocks : Type 0
-CutBlocks = (h of : Header) (n k start size : ℕ) → cutOf h n k ≡ Block of start size → BlockOfMessage h n k of start size
-
--- a block's part of the message
-abbrev pub partIn : Cut → List ℕ → List ℕ
-partIn (Block h start size) d = part start (start + size) d
-partIn NoBlock d = []
-
--- the parts of blocks 1 to k, joined
-unfoldable pub joined : Header → List ℕ → ℕ → List ℕ
-joined h d zero = []
-joined h d (suc k) = joined h d k ++ partIn (cutOf h (length d) (suc k)) d
-
--- the parts of all blocks, joined, are the message, up to E4's longest (7.2.1)
-abbrev pub CutJoined : Type 0
-CutJoined = (h : Header) (d : List ℕ) → length d ≤ 244 * 32767 → joined h d (blockCount (length d)) ≡ d
+-- a header at another block has its number and E, and all else as it was
+abbrev pub NumberedKeeps : Type 0
+NumberedKeeps =
+    (h : Header) (k : ℕ) (last : Bool)
+    → (numberedOf h k last .number ≡ k) × (numberedOf h k last .e ≡ last) × SameElse (numberedOf h k last) h

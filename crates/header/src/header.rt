@@ -1,9 +1,8 @@
 // The ten header bytes (E4 6) and what they say.
 ghost use mathlib.Core.Path.{_≡_};
 ghost use Prim.Native.Nat.{_≤_};
-ghost use Rattle.header.specs.Header.{headerBytes, headerOf, numberedOf, topBit};
-use crate::number::pair;
-use crate::number::quad;
+ghost use Rattle.header.specs.Header.{headerBytes, headerOf, numberedOf, quadOf, topBit};
+use wire::pair;
 
 // R-bit, device ID, W-bit, stream, function, E-bit, block number, and the four system bytes as one number, the
 // first of them its highest.
@@ -23,6 +22,20 @@ fn top_bit(on: bool) -> u8
     ensures { λ r. ⌜ (r ≡ topBit on) × (r ≤ 128) ⌝ }
 {
     if on { 128 } else { 0 }
+}
+
+// A byte as a wider number.
+fn wide(byte: u8) -> u32
+    ensures { λ r. ⌜ r ≡ byte ⌝ }
+{
+    byte as u32
+}
+
+// Four bytes as one number, the highest first.
+fn quad(a: u8, b: u8, c: u8, d: u8) -> u32
+    ensures { λ r. ⌜ r ≡ quadOf a b c d ⌝ }
+{
+    ((wide(a) * 256 + wide(b)) * 256 + wide(c)) * 256 + wide(d)
 }
 
 impl Header {

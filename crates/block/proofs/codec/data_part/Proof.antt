@@ -1,5 +1,5 @@
 use mathlib.Core.Path.{refl}
-use Rattle.header.specs.Bytes.{part}
+use Rattle.wire.specs.Bytes.{part}
 use borrow.Author.Needs.{needs}
 use Rattle.block.proofs.codec.data_part.Statement.{statement}
 use Rattle.block.proofs.codec.data_part.Tie as tie

@@ -1,11 +1,12 @@
-use Prim.Native.Nat.{ℕ, _+_, _%_}
+use Prim.Native.Nat.{_+_, _%_}
 use mathlib.Core.Path.{_≡_, ap, _∙_}
 use mathlib.Core.List.{[], _∷_, _++_}
 use native.Mathlib.Omega.{arith}
 use lib.ListN.{length, length-append}
 use borrow.Author.Needs.{needs}
-use Rattle.block.specs.Sum.{checksumOf, sumBytes}
-use Rattle.block.proofs.Sums.{sum-join}
+use Rattle.wire.specs.Bytes.{halvesOf}
+use Rattle.wire.specs.Sum.{checksumOf}
+use Rattle.wire.proofs.Sums.{sum-join}
 use Rattle.block.proofs.Building.{built}
 use Rattle.block.proofs.codec.put_block.Statement.{statement}
 use Rattle.block.proofs.codec.put_block.Tie as tie
@@ -17,7 +18,8 @@ returns c =
     let at-data = at-last .before .before .before .before .before in
     let at-header = at-data .before .before .before .before in
     let at-first = at-header .before .before .before .before .before in
-    let at-sum = at-first .before .before .before in
+    let at-halves = at-first .before .before .before in
+    let at-sum = at-halves .before in
     let at-start = at-sum .before .before .before .before .before .before in
     let h = at-start .args .t1 in
     let d = at-start .args .«data» .now in
@@ -25,7 +27,7 @@ returns c =
     let sum : at-sum .wrapping-add-u16 .result ≡ checksumOf (h ++ d) =
     at-sum .wrapping-add-u16 .ensures ∙ rw (at-sum .before .before .checksum .ensures, at-sum .before .checksum2 .ensures) (sum-join h d) in
     let size : (10 + length d) % 256 ≡ length (h ++ d) = omega (arith, length-append h d, at-start .pre) in
-    built h d (at-start .args .out .now) _ _ _ _ _ _ ten (λ k. size k ∷ []) (ap sumBytes sum)
+    built h d (at-start .args .out .now) _ _ _ _ _ _ ten (λ k. size k ∷ []) (at-halves .halves .ensures ∙ ap halvesOf sum)
     (at-first .put .ensures) (at-header .put2 .ensures) (at-data .put3 .ensures) (at-last .put4 .ensures)
 
 pub put-block-spec : {M : Type 1} → statement M
@@ -33,7 +35,7 @@ put-block-spec =
     tie.close
     (tie.spec
     (λ c. search needs) (λ c. search needs) (λ c κs. search needs) (λ c κs. search needs) (λ c κs. search needs)
-    (λ c. search needs) (λ c. search needs) (λ c. search needs) (λ c. search needs) (λ c κs. search needs)
-    (λ c. search needs) (λ c κs. search needs) (λ c κs. search needs) (λ c. search needs) (λ c. search needs)
-    (λ c κs. search needs) (λ c. search needs)
+    (λ c. search needs) (λ c κs. search needs) (λ c. search needs) (λ c κs. search needs) (λ c. search needs)
+    (λ c κs. search needs) (λ c κs. search needs) (λ c. search needs) (λ c. search needs) (λ c κs. search needs)
+    (λ c. search needs)
     returns)

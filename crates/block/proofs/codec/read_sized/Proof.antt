@@ -1,14 +1,14 @@
 use mathlib.Core.Path.{sym, _∙_}
 use borrow.Author.Tests.{eq-eqb, ne-eqb}
-use Rattle.header.specs.Bytes.{part}
+use Rattle.wire.specs.Bytes.{part}
 use Rattle.header.specs.Header.{headerOf}
-use Rattle.block.specs.Block.{readSized}
+use Rattle.block.specs.Block.{readSized, sumsAgree}
 use borrow.Author.Needs.{needs}
 use Rattle.block.proofs.codec.read_sized.Statement.{statement}
 use Rattle.block.proofs.codec.read_sized.Tie as tie
 
 pub read-sized-spec : {M : Type 1} → statement M
-unfolding readSized headerOf part
+unfolding readSized sumsAgree headerOf part
 read-sized-spec =
     tie.close
     (tie.spec

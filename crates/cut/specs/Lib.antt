@@ -1,0 +1,3 @@
+pub mod Blocks
+pub mod Theorems
+pub mod Table

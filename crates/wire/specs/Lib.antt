@@ -1,0 +1,5 @@
+pub mod Bytes
+pub mod Sum
+pub mod Theorems
+pub mod Table
+pub mod Determined
