@@ -1,8 +1,12 @@
+-- `Splices`: bytes put into lent memory. `Building`: the four writes of a block. `Frames`: what stands where in a block.
+-- `Reading`, `Writing`: what a read and a write answer, and when. `RoundTrip`: what is written reads back. `Damage`: what was
+-- damaged does not. `Table`: 01's rows. `Determined`: what each public contract determines.
 pub mod Splices
 pub mod Building
-pub mod Reading
 pub mod Frames
+pub mod Reading
 pub mod Writing
 pub mod RoundTrip
+pub mod Damage
 pub mod Table
 pub mod Determined

@@ -1,14 +1,15 @@
 -- What a block alone reads as (`specs/Block.antt`), and by what it is refused. Assumes nothing.
 use Prim.Native.Nat.{ℕ, _+_, _-_, _<_}
 use mathlib.Core.Path.{_≡_, refl, sym, ap, subst, _∙_}
-use mathlib.Core.Bool.{Bool, true, false, cond, _&&_, and-eq-true-iff, false≢true}
+use mathlib.Core.Bool.{true, cond, _&&_, and-eq-true-iff}
 use mathlib.Core.List.{List}
 use mathlib.Core.Logic.{_↔_}
 use native.Mathlib.Omega.{arith}
 use lib.Dec.{leb, eqb}
 use lib.ListN.{length, getD}
-use borrow.Author.Tests.{leb-true, le-leb, eqb-true, eqb-false, eq-eqb}
+use borrow.Author.Tests.{leb-true, le-leb, eqb-true, eq-eqb}
 use Rattle.wire.specs.Bytes.{part, pairOf}
+use Rattle.wire.proofs.Choice.{judged}
 use Rattle.header.specs.Header.{headerOf}
 use Rattle.header.specs.declared.header.Header.{Header}
 use Rattle.wire.specs.Sum.{checksumOf}
@@ -18,37 +19,23 @@ use Rattle.block.specs.declared.refusal.Refusal.the-variants.{BlockLengt
 use Rattle.block.specs.declared.codec.Read.{Read}
 use Rattle.block.specs.declared.codec.Read.the-variants.{Block, Refused}
 
-pub good-length : (n given : ℕ) → lengthGood n given ≡ true → GoodLength n given
+pub good-length : (n given : ℕ) → lengthGood n given ≡ true ↔ GoodLength n given
 unfolding lengthGood
-good-length n given e =
-    let p = and-eq-true-iff (leb 10 n && leb n 254) (eqb n given) .0 e in
-    let q = and-eq-true-iff (leb 10 n) (leb n 254) .0 (p .0) in
-    record { least = leb-true _ _ (q .0); most = leb-true _ _ (q .1); counts = eqb-true _ _ (p .1) }
-
-pub length-good : (n given : ℕ) → GoodLength n given → lengthGood n given ≡ true
-unfolding lengthGood
-length-good n given g = simp (le-leb _ _ (g .least), le-leb _ _ (g .most), eq-eqb _ _ (g .counts))
-
--- a length is good, or it is not
-pub by-length : (n given : ℕ) (P : Bool → Type 0) → (GoodLength n given → P true) → ((GoodLength n given → ⊥) → P false) → P (lengthGood n given)
-by-length n given P good bad = by (lengthGood n given) refl
-  where
-    by : (t : Bool) → lengthGood n given ≡ t → P t
-    by true e = good (good-length n given e)
-    by false e = bad (λ g. false≢true (sym e ∙ length-good n given g))
+good-length n given = (
+  λ e.
+      let p = and-eq-true-iff (leb 10 n && leb n 254) (eqb n given) .0 e in
+      let q = and-eq-true-iff (leb 10 n) (leb n 254) .0 (p .0) in
+      record { least = leb-true _ _ (q .0); most = leb-true _ _ (q .1); counts = eqb-true _ _ (p .1) },
+  λ g. simp (le-leb _ _ (g .least), le-leb _ _ (g .most), eq-eqb _ _ (g .counts)),
+)
 
 -- the sums of a block of length n agree
 abbrev Agree : List ℕ → ℕ → Type 0
 Agree line n = checksumOf (part 1 (n + 1) line) ≡ pairOf (getD line (n + 1) 0) (getD line (n + 2) 0)
 
--- they do, or they do not
-by-sums : (line : List ℕ) (n : ℕ) (P : Bool → Type 0) → (Agree line n → P true) → ((Agree line n → ⊥) → P false) → P (sumsAgree line n)
+sums-agree : (line : List ℕ) (n : ℕ) → sumsAgree line n ≡ true ↔ Agree line n
 unfolding sumsAgree
-by-sums line n P agree differ = by (sumsAgree line n) refl
-  where
-    by : (t : Bool) → sumsAgree line n ≡ t → P t
-    by true e = agree (eqb-true _ _ e)
-    by false e = differ (eqb-false _ _ e)
+sums-agree line n = (λ e. eqb-true _ _ e, λ e. eq-eqb _ _ e)
 
 -- the three answers to a read
 pub by-reading : (line : List ℕ) (P : Read → Type 0) → ((GoodLength (getD line 0 0) (length line - 3) → ⊥) → P (Refused BlockLength))
@@ -57,8 +44,8 @@ pub by-reading : (line : List ℕ) (P : Read → Type 0) → ((GoodLength (getD 
     → P (readOf line)
 unfolding readOf readSized
 by-reading line P bad differ agree =
-    by-length n (length line - 3) (λ t. P (cond t (readSized line n) (Refused BlockLength)))
-    (λ g. by-sums line n (λ t. P (cond t (Block (headerOf (part 1 (n + 1) line)) n) (Refused ChecksumDiffers))) (agree g) (differ g))
+    judged (lengthGood n (length line - 3)) (good-length n (length line - 3)) (λ t. P (cond t (readSized line n) (Refused BlockLength)))
+    (λ g. judged (sumsAgree line n) (sums-agree line n) (λ t. P (cond t (Block (headerOf (part 1 (n + 1) line)) n) (Refused ChecksumDiffers))) (agree g) (differ g))
     bad
   where
     n : ℕ

@@ -1,13 +1,13 @@
 -- What a write answers and leaves (`specs/Block.antt`). Assumes nothing.
 use Prim.Native.Nat.{ℕ, _+_, _-_, _≤_, _<_}
 use mathlib.Core.Path.{_≡_, refl, ap, _∙_}
-use mathlib.Core.Bool.{Bool, true, false, cond}
+use mathlib.Core.Bool.{true, cond}
 use mathlib.Core.List.{List, _++_}
 use mathlib.Core.Logic.{_↔_}
 use native.Mathlib.Omega.{arith}
 use lib.ListN.{length, drop, length-append, length-drop}
 use lib.Seq.{take-at, drop-at}
-use borrow.Author.Tests.{ltb-true, ltb-false}
+use borrow.Author.Tests.{ltb-true, lt-ltb}
 use Rattle.header.specs.Header.{headerBytes}
 use Rattle.header.specs.declared.header.Header.{Header}
 use Rattle.block.specs.Output.{onFront}
@@ -17,16 +17,12 @@ use Rattle.block.specs.Theorems.{WriteRefuses, RefusedWritesNothing, Wri
 use Rattle.block.specs.declared.refusal.Refusal.the-variants.{OutputShort, BlockLength}
 use Rattle.block.specs.declared.codec.Written.the-variants.{Bytes as Taken, Refused as NotWritten}
 use Rattle.block.proofs.Frames.{frame-length}
-use Rattle.block.proofs.Reading.{by-length}
+use Rattle.block.proofs.Reading.{good-length}
+use Rattle.wire.proofs.Choice.{judged}
 
--- an output is too short, or it is not
-by-output : (out : List ℕ) (P : Bool → Type 0) → (length out < 257 → P true) → (257 ≤ length out → P false) → P (outputShort out)
+output-short : (out : List ℕ) → outputShort out ≡ true ↔ (length out < 257)
 unfolding outputShort
-by-output out P short enough = by (outputShort out) refl
-  where
-    by : (t : Bool) → outputShort out ≡ t → P t
-    by true e = short (ltb-true _ _ e)
-    by false e = enough (ltb-false _ _ e)
+output-short out = (λ e. ltb-true _ _ e, λ h. lt-ltb _ _ h)
 
 -- the three answers to a write
 pub by-writing : (n : ℕ) (h : Header) (d out : List ℕ) (P : Writing → Type 0) → (length out < 257 → P (writing (NotWritten OutputShort) out))
@@ -34,9 +30,12 @@ pub by-writing : (n : ℕ) (h : Header) (d out : List ℕ) (P : Writing → Type
     → (257 ≤ length out → GoodLength n (10 + length d) → P (writing (Taken (n + 3)) (onFront (blockOf h d) out))) → P (writeOf n h d out)
 unfolding writeOf
 by-writing n h d out P short bad good =
-    by-output out (λ t. P (cond t (writing (NotWritten OutputShort) out) (cond (lengthGood n (10 + length d)) taken refused)))
+    judged (outputShort out) (output-short out)
+    (λ t. P (cond t (writing (NotWritten OutputShort) out) (cond (lengthGood n (10 + length d)) taken refused)))
     short
-    (λ l. by-length n (10 + length d) (λ t. P (cond t taken refused)) (good l) (bad l))
+    (λ long.
+    let enough : 257 ≤ length out = omega arith in
+    judged (lengthGood n (10 + length d)) (good-length n (10 + length d)) (λ t. P (cond t taken refused)) (good enough) (bad enough))
   where
     taken : Writing
     taken = writing (Taken (n + 3)) (onFront (blockOf h d) out)

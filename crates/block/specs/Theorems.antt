@@ -68,9 +68,11 @@ ReadOfWritten =
 abbrev pub flipped : ℕ → ℕ → ℕ
 flipped k x = cond (eqb (x / 2 ^ k % 2) 0) (x + 2 ^ k) (x - 2 ^ k)
 
--- a block with any one bit of its sum changed is refused by 13
+-- a block with any one bit of its sum changed, which still has a sum of 16 bits, is refused by 13
 abbrev pub OneSumBit : Type 0
-OneSumBit = (bs : List ℕ) (k : ℕ) → 10 ≤ length bs → length bs ≤ 254 → k < 16 → readOf (withSum bs (flipped k (checksumOf bs))) ≡ Refused ChecksumDiffers
+OneSumBit =
+    (bs : List ℕ) (k : ℕ) → 10 ≤ length bs → length bs ≤ 254 → k < 16
+    → (flipped k (checksumOf bs) < 65536) × (readOf (withSum bs (flipped k (checksumOf bs))) ≡ Refused ChecksumDiffers)
 
 -- and so is one with any other sum
 abbrev pub OtherSum : Type 0

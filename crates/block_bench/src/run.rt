@@ -12,7 +12,7 @@ use cut::Cut;
 use header::Header;
 
 // Answers a line: a comment, or a command, which is a byte and a space before its fields.
-pub fn answer(line: &[u8]) {
+pub(crate) fn answer(line: &[u8]) {
     if line.len() == 0 {
         show::unreadable();
         return;

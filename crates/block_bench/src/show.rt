@@ -2,22 +2,22 @@
 use libc::STDOUT_FILENO;
 
 // Bytes as they stand.
-pub fn text(bytes: &[u8]) {
+pub(crate) fn text(bytes: &[u8]) {
     io::write_all(STDOUT_FILENO, bytes);
 }
 
 // What a line that can't be read is answered by.
-pub fn unreadable() {
+pub(crate) fn unreadable() {
     text(b"?");
 }
 
 // A number in decimal, without leading zeros.
-pub fn decimal(n: usize) {
+pub(crate) fn decimal(n: usize) {
     io::print_decimal(STDOUT_FILENO, n as u64);
 }
 
 // A bit as 0 or 1.
-pub fn bit(on: bool) {
+pub(crate) fn bit(on: bool) {
     if on {
         text(b"1");
     } else {
@@ -41,7 +41,7 @@ fn byte(value: u8) {
 }
 
 // Bytes in hex, or `-` where there are none.
-pub fn hex(bytes: &[u8]) {
+pub(crate) fn hex(bytes: &[u8]) {
     if bytes.len() == 0 {
         text(b"-");
     }
@@ -53,13 +53,13 @@ pub fn hex(bytes: &[u8]) {
 }
 
 // A space, and a number in decimal.
-pub fn next_decimal(n: usize) {
+pub(crate) fn next_decimal(n: usize) {
     text(b" ");
     decimal(n);
 }
 
 // A space, and a bit.
-pub fn next_bit(on: bool) {
+pub(crate) fn next_bit(on: bool) {
     text(b" ");
     bit(on);
 }

@@ -1,13 +1,13 @@
 // Reading the fields of a line.
 
 // What a field says: a number, or how many bytes were in it.
-pub enum Field {
+pub(crate) enum Field {
     Value(usize),
     Unreadable,
 }
 
 // The first field of a text, a number, and where what stands behind its space begins.
-pub enum Front {
+pub(crate) enum Front {
     Number { value: usize, next: usize },
     Unreadable,
 }
@@ -49,7 +49,7 @@ fn with_digit(value: usize, byte: u8) -> Field {
 }
 
 // A text of decimal digits alone, at least one, that is 65,535 at most.
-pub fn decimal(text: &[u8]) -> Field {
+pub(crate) fn decimal(text: &[u8]) -> Field {
     if text.len() == 0 {
         return Field::Unreadable;
     }
@@ -66,7 +66,7 @@ pub fn decimal(text: &[u8]) -> Field {
 }
 
 // The number that a text begins with, up to a space.
-pub fn front_number(text: &[u8]) -> Front {
+pub(crate) fn front_number(text: &[u8]) -> Front {
     let end = first_space(text);
     if text.len() <= end {
         return Front::Unreadable;
@@ -81,7 +81,7 @@ pub fn front_number(text: &[u8]) -> Front {
 }
 
 // What stands in a text from index `at` on.
-pub fn from(text: &[u8], at: usize) -> &[u8] {
+pub(crate) fn from(text: &[u8], at: usize) -> &[u8] {
     if at <= text.len() {
         &text[at..]
     } else {
@@ -143,7 +143,7 @@ fn hex(text: &[u8], bytes: &mut [u8; 512]) -> Field {
 }
 
 // The same for a field, which is not empty, and in which `-` stands for no bytes.
-pub fn all_bytes(text: &[u8], bytes: &mut [u8; 512]) -> Field {
+pub(crate) fn all_bytes(text: &[u8], bytes: &mut [u8; 512]) -> Field {
     if text.len() == 0 {
         return Field::Unreadable;
     }

@@ -1,7 +1,7 @@
 -- Cutting a message: its blocks' numbers, headers and parts. Assumes nothing.
 use Prim.Native.Nat.{ℕ, zero, suc, _+_, _-_, _*_, _≤_, _<_}
 use mathlib.Core.Path.{_≡_, refl, sym, ap, _∙_}
-use mathlib.Core.Bool.{Bool, true, false, _&&_, and-eq-true-iff}
+use mathlib.Core.Bool.{true, cond, _&&_, and-eq-true-iff}
 use mathlib.Core.List.{List, _++_}
 use mathlib.Core.Logic.{_↔_, _⊎_, inl, inr, ⊎-elim}
 use native.Mathlib.Omega.{arith}
@@ -10,6 +10,7 @@ use lib.ListN.{length, take, drop, length-take, length-drop}
 use lib.Seq.{take-add, take-all}
 use borrow.Author.Tests.{leb-true, le-leb, eqb-true, eqb-false, eq-eqb, ne-eqb}
 use Rattle.wire.specs.Bytes.{part}
+use Rattle.wire.proofs.Choice.{either, judged}
 use Rattle.cut.specs.Blocks.{blockCount, partStart, partLength, hasBlock, headerAt, cutOf}
 use Rattle.cut.specs.Theorems.{CutNumbers, BlockOfMessage, CutBlocks, partIn, CutParts, joined, CutJoined}
 use Rattle.header.specs.declared.header.Header.{Header}
@@ -18,7 +19,11 @@ use Rattle.cut.specs.declared.Cut.the-variants.{Block, NoBlock}
 use Rattle.header.proofs.Headers.{numbered-keeps}
 use Rattle.cut.proofs.Counts.{fewest}
 
-pub has-block : (n k : ℕ) → hasBlock n k ≡ true ↔ ((1 ≤ k) × (k ≤ blockCount n) × (k ≤ 32767))
+-- there is a block k of n bytes
+abbrev Within : ℕ → ℕ → Type 0
+Within n k = (1 ≤ k) × (k ≤ blockCount n) × (k ≤ 32767)
+
+has-block : (n k : ℕ) → hasBlock n k ≡ true ↔ Within n k
 unfolding hasBlock
 has-block n k = (
   λ e.
@@ -28,24 +33,26 @@ has-block n k = (
   λ w. simp (le-leb _ _ (w .0), le-leb _ _ (w .1), le-leb _ _ (w .2)),
 )
 
--- what a cut is, by whether there is such a block
-cut-is : (h : Header) (n k : ℕ) → hasBlock n k ≡ true → cutOf h n k ≡ Block (headerAt h n k) (partStart k) (partLength n k)
+-- the two answers to a cut
+by-cut : (h : Header) (n k : ℕ) (P : Cut → Type 0) → (Within n k → P (Block (headerAt h n k) (partStart k) (partLength n k)))
+    → ((Within n k → ⊥) → P NoBlock) → P (cutOf h n k)
 unfolding cutOf
-cut-is h n k e = simp e
+by-cut h n k P =
+    judged (hasBlock n k) (has-block n k) (λ t. P (cond t (Block (headerAt h n k) (partStart k) (partLength n k)) NoBlock))
 
-cut-none : (h : Header) (n k : ℕ) → hasBlock n k ≡ false → cutOf h n k ≡ NoBlock
-unfolding cutOf
-cut-none h n k e = simp e
+cut-is : (h : Header) (n k : ℕ) → Within n k → cutOf h n k ≡ Block (headerAt h n k) (partStart k) (partLength n k)
+cut-is h n k w =
+    by-cut h n k (λ c. c ≡ Block (headerAt h n k) (partStart k) (partLength n k)) (λ v. refl) (λ none. absurd (none w))
+
+-- a block is not none
+some-block : (h : Header) (start size : ℕ) → Block h start size ≡ NoBlock → ⊥
+some-block h start size e = let z : _≡_ {A = ℕ} 0 1 = cc in omega arith
 
 pub cut-numbers : CutNumbers
-cut-numbers h n k = (by (hasBlock n k) refl, λ w e. no-block (sym (cut-is h n k (has-block n k .1 w)) ∙ e))
-  where
-    by : (t : Bool) → hasBlock n k ≡ t → (cutOf h n k ≡ NoBlock → ⊥) → (1 ≤ k) × (k ≤ blockCount n) × (k ≤ 32767)
-    by true e f = has-block n k .0 e
-    by false e f = absurd (f (cut-none h n k e))
-
-    no-block : Block (headerAt h n k) (partStart k) (partLength n k) ≡ NoBlock → ⊥
-    no-block e = let z : _≡_ {A = ℕ} 0 1 = cc in omega arith
+cut-numbers h n k =
+    by-cut h n k (λ c. (c ≡ NoBlock → ⊥) ↔ Within n k)
+    (λ w. (λ f. w, λ v. some-block (headerAt h n k) (partStart k) (partLength n k)))
+    (λ none. (λ f. absurd (f refl), λ w. absurd (none w)))
 
 -- how long a part is: of the last block, and of one before it
 part-last : (n : ℕ) → partLength n (blockCount n) ≡ n - partStart (blockCount n)
@@ -58,11 +65,9 @@ part-filled n k h = simp (ne-eqb k (blockCount n) (λ e. omega arith))
 
 -- k is the last block, or one before it
 last-or-before : (n k : ℕ) → k ≤ blockCount n → (k ≡ blockCount n) ⊎ (k < blockCount n)
-last-or-before n k h = by (eqb k (blockCount n)) refl
-  where
-    by : (t : Bool) → eqb k (blockCount n) ≡ t → (k ≡ blockCount n) ⊎ (k < blockCount n)
-    by true e = inl (eqb-true _ _ e)
-    by false e = inr (omega (arith, eqb-false k (blockCount n) e))
+last-or-before n k h =
+    either (eqb k (blockCount n)) (λ t. (k ≡ blockCount n) ⊎ (k < blockCount n))
+    (λ e. inl (eqb-true _ _ e)) (λ e. inr (omega (arith, eqb-false k (blockCount n) e)))
 
 -- a part is 244 bytes at the most, and lies within the message
 part-fits : (n k : ℕ) → 1 ≤ k → k ≤ blockCount n → (partLength n k ≤ 244) × (partStart k + partLength n k ≤ n)
@@ -76,9 +81,16 @@ part-fits n k one most = ⊎-elim last before (last-or-before n k most)
 
 pub cut-blocks : CutBlocks
 unfolding headerAt
-cut-blocks h of n k start size e = by (hasBlock n k) refl
+cut-blocks h of n k start size =
+    by-cut h n k (λ c. c ≡ Block of start size → BlockOfMessage h n k of start size)
+    (λ w e.
+    let p : headerAt h n k ≡ of = cc in
+    let q : partStart k ≡ start = cc in
+    let r : partLength n k ≡ size = cc in
+    rw (p, q, r) at (block w))
+    (λ none e. absurd (some-block of start size (sym e)))
   where
-    block : (1 ≤ k) × (k ≤ blockCount n) × (k ≤ 32767) → BlockOfMessage h n k (headerAt h n k) (partStart k) (partLength n k)
+    block : Within n k → BlockOfMessage h n k (headerAt h n k) (partStart k) (partLength n k)
     block w = record {
       number = numbered-keeps h k (eqb k (blockCount n)) .0;
       last-alone = (eqb-true k (blockCount n), eq-eqb k (blockCount n));
@@ -87,15 +99,6 @@ cut-blocks h of n k start size e = by (hasBlock n k) refl
       most = part-fits n k (w .0) (w .1) .0;
       within = part-fits n k (w .0) (w .1) .1;
     }
-
-    by : (t : Bool) → hasBlock n k ≡ t → BlockOfMessage h n k of start size
-    by true t =
-        let same : Block (headerAt h n k) (partStart k) (partLength n k) ≡ Block of start size = sym (cut-is h n k t) ∙ e in
-        let p : headerAt h n k ≡ of = cc in
-        let q : partStart k ≡ start = cc in
-        let r : partLength n k ≡ size = cc in
-        rw (p, q, r) at (block (has-block n k .0 t))
-    by false t = let same : NoBlock ≡ Block of start size = sym (cut-none h n k t) ∙ e in let z : _≡_ {A = ℕ} 0 1 = cc in absurd (omega arith)
 
 pub cut-parts : CutParts
 unfolding part
@@ -113,7 +116,7 @@ joined-front h d (suc k) most fits =
     let start : partStart (suc k) ≡ k * 244 = omega arith in
     let size : partStart (suc k) + l - partStart (suc k) ≡ l = omega arith in
     let here : partIn (cutOf h n (suc k)) d ≡ take l (drop (k * 244) d) =
-    ap (λ (c : Cut). partIn c d) (cut-is h n (suc k) (has-block n (suc k) .1 (omega arith, most, omega arith)))
+    ap (λ (c : Cut). partIn c d) (cut-is h n (suc k) (omega arith, most, omega arith))
     ∙ (λ i. take (size i) (drop (start i) d)) in
     (λ i. joined-front h d k (omega arith) fits i ++ here i) ∙ sym (take-add (k * 244) l d) ∙ ⊎-elim last before (last-or-before n (suc k) most)
   where

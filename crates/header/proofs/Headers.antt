@@ -9,6 +9,7 @@ use lib.Dec.{leb}
 use lib.ListN.{length, take, getD}
 use lib.Seq.{take-all, take-suc}
 use borrow.Author.Tests.{le-leb, lt-leb, leb-true, leb-false}
+use Rattle.wire.proofs.Choice.{either}
 use Rattle.wire.specs.Bytes.{pairOf}
 use Rattle.header.specs.Header.{topBit, quadOf, firstTen, headerBytes, headerOf}
 use Rattle.header.specs.declared.header.Header.{Header}
@@ -64,11 +65,8 @@ header-and-back h i = λ k. record {
 
 -- a byte's upper bit, with the other seven, is the byte
 byte-back : (x : ℕ) → x < 256 → topBit (leb 128 x) + x % 128 ≡ x
-byte-back x h = by (leb 128 x) refl
-  where
-    by : (t : Bool) → leb 128 x ≡ t → topBit t + x % 128 ≡ x
-    by true e = let q = leb-true 128 x e in omega arith
-    by false e = let q = leb-false 128 x e in omega arith
+byte-back x h =
+    either (leb 128 x) (λ t. topBit t + x % 128 ≡ x) (λ e. omega (arith, leb-true 128 x e)) (λ e. omega (arith, leb-false 128 x e))
 
 -- ten bytes are their first ten
 ten-are : (b : List ℕ) → length b ≡ 10 → take 10 b ≡ firstTen b

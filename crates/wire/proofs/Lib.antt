@@ -1,5 +1,6 @@
--- `Numbers`: a number and its two bytes are each the other's. `Sums`: the laws of the checksum. `Table`: 01's rows.
+-- `Choice`: a choice on a test. `Numbers`: a number and its two bytes are each the other's. `Sums`: the laws of the checksum. `Table`: 01's rows.
 -- `Determined`: what each public contract determines.
+pub mod Choice
 pub mod Numbers
 pub mod Sums
 pub mod Table

@@ -12,6 +12,6 @@ read-block-spec =
     (tie.spec
     (λ c. simp (read-short (c .before .before .args .line .now) (c .if1 .taken)))
     (λ c. search needs) (λ c κs. search needs) (λ c. search needs) (λ c κs. search needs)
-    (λ c κs. good-length _ _ (sym (c .before .good-length .ensures) ∙ c .if2 .taken))
+    (λ c κs. good-length _ _ .0 (sym (c .before .good-length .ensures) ∙ c .if2 .taken))
     (λ c. simp (rw (c .before .before .before .count .ensures) at (sym (c .before .before .good-length .ensures) ∙ c .before .if2 .taken)) (rw (c .before .before .before .count .ensures) at (c .read-sized .ensures)))
     (λ c. simp (rw (c .before .before .count .ensures) at (sym (c .before .good-length .ensures) ∙ c .if2 .left))))

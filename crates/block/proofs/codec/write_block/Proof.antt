@@ -25,8 +25,8 @@ write-block-spec =
     (tie.spec
     (λ c. simp (lt-ltb _ _ (c .if1 .taken)))
     (λ c. search needs) (λ c κs. search needs) (λ c κs. search needs)
-    (λ c κs. omega (arith, good-length _ _ (sym (c .before .before .before .good-length .ensures) ∙ c .before .before .if2 .taken), c .before .before .before .before .if1 .left))
-    (λ c. omega (arith, good-length _ _ (sym (c .before .before .before .before .before .before .good-length .ensures) ∙ c .before .before .before .before .before .if2 .taken)))
+    (λ c κs. omega (arith, good-length _ _ .0 (sym (c .before .before .before .good-length .ensures) ∙ c .before .before .if2 .taken), c .before .before .before .before .if1 .left))
+    (λ c. omega (arith, good-length _ _ .0 (sym (c .before .before .before .before .before .before .good-length .ensures) ∙ c .before .before .before .before .before .if2 .taken)))
     (λ c. search needs)
     taken
     (λ c. simp (le-ltb _ _ (c .before .before .if1 .left), sym (c .before .good-length .ensures) ∙ c .if2 .left)))
