@@ -9,6 +9,9 @@ use header::Header;
 // How many data bytes a filled block carries: 254 less the ten of the header.
 const BLOCK_DATA: usize = 244;
 
+// The highest block number (E4 6.7).
+const LAST_NUMBER: usize = 32767;
+
 // One block of a message: its header, and its part of the message's data, `length` bytes from `start` on.
 pub enum Cut {
     Block {
@@ -41,7 +44,7 @@ pub fn cut_block(header: Header, length: usize, k: usize) -> Cut
     if count < k {
         return Cut::NoBlock;
     }
-    if 32767 < k {
+    if LAST_NUMBER < k {
         return Cut::NoBlock;
     }
     let start = (k - 1) * BLOCK_DATA;

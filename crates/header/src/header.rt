@@ -4,16 +4,21 @@ ghost use Prim.Native.Nat.{_≤_};
 ghost use Rattle.header.specs.Header.{headerBytes, headerOf, numberedOf, quadOf, topBit};
 use wire::pair;
 
-// R-bit, device ID, W-bit, stream, function, E-bit, block number, and the four system bytes as one number, the
-// first of them its highest.
 pub struct Header {
+    // R-bit (E4 6.2): set in a message to the host.
     pub r: bool,
+    // Device ID (E4 6.3), 15 bits.
     pub device: u16,
+    // W-bit (E4 6.4): the sender of a primary expects a reply.
     pub w: bool,
+    // Upper and lower message ID (E4 6.5), which are stream, 7 bits, and function.
     pub stream: u8,
     pub function: u8,
+    // E-bit (E4 6.6): set in the last block of a message.
     pub e: bool,
+    // Block number (E4 6.7), 15 bits.
     pub number: u16,
+    // The four system bytes (E4 6.8) as one number, the first of them its highest.
     pub system: u32,
 }
 
