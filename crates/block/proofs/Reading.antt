@@ -80,8 +80,8 @@ reads-as line h n = (
     says : GoodBlock line n × (h ≡ headerOf (part 1 (n + 1) line)) → headerOf (part 1 (m + 1) line) ≡ h
     says w = ap (λ (k : ℕ). headerOf (part 1 (k + 1) line)) (w .0 .length-byte) ∙ sym (w .1)
 
-pub read-table : ReadRefuses
-read-table line = record {
+pub read-refuses : ReadRefuses
+read-refuses line = record {
   one = by-reading line (λ r. readNumber r ≡ 1 → ⊥) (λ bad e. omega arith) (λ g ne e. omega arith) (λ g s e. omega arith);
   twelve = by-reading line (λ r. (readNumber r ≡ 12) ↔ (GoodLength n (length line - 3) → ⊥))
       (λ bad. (λ e. bad, λ f. refl)) (λ g ne. (λ e. absurd (omega arith), λ f. absurd (f g))) (λ g s. (λ e. absurd (omega arith), λ f. absurd (f g)));

@@ -43,8 +43,8 @@ by-writing n h d out P short bad good =
     refused : Writing
     refused = writing (NotWritten BlockLength) out
 
-pub write-table : WriteRefuses
-write-table n h d out = record {
+pub write-refuses : WriteRefuses
+write-refuses n h d out = record {
   one = by-writing n h d out (λ w. (writtenNumber (w .answer) ≡ 1) ↔ (length out < 257))
       (λ s. (λ e. s, λ l. refl)) (λ l b. (λ e. absurd (omega arith), λ s. absurd (omega arith))) (λ l g. (λ e. absurd (omega arith), λ s. absurd (omega arith)));
   twelve = by-writing n h d out (λ w. (writtenNumber (w .answer) ≡ 12) ↔ ((257 ≤ length out) × (GoodLength n (10 + length d) → ⊥)))

@@ -8,9 +8,9 @@ use borrow.Author.Tests.{eqb-true, eqb-false}
 use Rattle.cut.specs.Blocks.{blockCount}
 use Rattle.cut.specs.Theorems.{CountIsFewest, FewestBlocks}
 
-pub fewest : CountIsFewest
+pub count-is-fewest : CountIsFewest
 unfolding blockCount
-fewest n = by (eqb n 0) refl
+count-is-fewest n = by (eqb n 0) refl
   where
     by : (t : Bool) → eqb n 0 ≡ t → FewestBlocks n (blockCount n)
     by true e = let z = eqb-true n 0 e in rw e (record { some = omega arith; enough = omega arith; fewest = omega arith })

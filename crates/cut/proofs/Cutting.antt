@@ -17,7 +17,7 @@ use Rattle.header.specs.declared.header.Header.{Header}
 use Rattle.cut.specs.declared.Cut.{Cut}
 use Rattle.cut.specs.declared.Cut.the-variants.{Block, NoBlock}
 use Rattle.header.proofs.Headers.{numbered-keeps}
-use Rattle.cut.proofs.Counts.{fewest}
+use Rattle.cut.proofs.Counts.{count-is-fewest}
 
 -- there is a block k of n bytes
 abbrev Within : ℕ → ℕ → Type 0
@@ -74,10 +74,10 @@ part-fits : (n k : ℕ) → 1 ≤ k → k ≤ blockCount n → (partLength n k �
 part-fits n k one most = ⊎-elim last before (last-or-before n k most)
   where
     last : k ≡ blockCount n → (partLength n k ≤ 244) × (partStart k + partLength n k ≤ n)
-    last e = rw e (let c = fewest n in let p = part-last n in omega arith)
+    last e = rw e (let c = count-is-fewest n in let p = part-last n in omega arith)
 
     before : k < blockCount n → (partLength n k ≤ 244) × (partStart k + partLength n k ≤ n)
-    before h = let c = fewest n in let p = part-filled n k h in omega arith
+    before h = let c = count-is-fewest n in let p = part-filled n k h in omega arith
 
 pub cut-blocks : CutBlocks
 unfolding headerAt
@@ -122,7 +122,7 @@ joined-front h d (suc k) most fits =
   where
     last : suc k ≡ blockCount (length d) → take (k * 244 + partLength (length d) (suc k)) d ≡ take (suc k * 244) d
     last e =
-        let c = fewest (length d) in
+        let c = count-is-fewest (length d) in
         let p : partLength (length d) (suc k) ≡ length d - partStart (suc k) = rw e (part-last (length d)) in
         take-all (k * 244 + partLength (length d) (suc k)) d (omega arith) ∙ sym (take-all (suc k * 244) d (omega arith))
 
@@ -134,5 +134,5 @@ joined-front h d (suc k) most fits =
 
 pub cut-joined : CutJoined
 cut-joined h d short =
-    let count = fewest (length d) in
+    let count = count-is-fewest (length d) in
     joined-front h d (blockCount (length d)) (omega arith) (omega arith) ∙ take-all (blockCount (length d) * 244) d (omega arith)
