@@ -1,15 +1,14 @@
 -- What a block alone reads as (`specs/Block.antt`), and by what it is refused. Assumes nothing.
 use Prim.Native.Nat.{ℕ, _+_, _-_, _<_}
 use mathlib.Core.Path.{_≡_, refl, sym, ap, subst, _∙_}
-use mathlib.Core.Bool.{true, cond, _&&_, and-eq-true-iff}
+use mathlib.Core.Bool.{true, cond}
 use mathlib.Core.List.{List}
 use mathlib.Core.Logic.{_↔_}
 use native.Mathlib.Omega.{arith}
-use lib.Dec.{leb, eqb}
 use lib.ListN.{length, getD}
 use borrow.Author.Tests.{leb-true, le-leb, eqb-true, eq-eqb}
 use Rattle.wire.specs.Bytes.{part, pairOf}
-use Rattle.wire.proofs.Choice.{judged}
+use Rattle.wire.proofs.Choice.{judged, three}
 use Rattle.header.specs.Header.{headerOf}
 use Rattle.header.specs.declared.header.Header.{Header}
 use Rattle.wire.specs.Sum.{checksumOf}
@@ -22,10 +21,7 @@ use Rattle.block.specs.declared.codec.Read.the-variants.{Block, Refused}
 pub good-length : (n given : ℕ) → lengthGood n given ≡ true ↔ GoodLength n given
 unfolding lengthGood
 good-length n given = (
-  λ e.
-      let p = and-eq-true-iff (leb 10 n && leb n 254) (eqb n given) .0 e in
-      let q = and-eq-true-iff (leb 10 n) (leb n 254) .0 (p .0) in
-      record { least = leb-true _ _ (q .0); most = leb-true _ _ (q .1); counts = eqb-true _ _ (p .1) },
+  λ e. let w = three _ _ _ .0 e in record { least = leb-true _ _ (w .0); most = leb-true _ _ (w .1); counts = eqb-true _ _ (w .2) },
   λ g. simp (le-leb _ _ (g .least), le-leb _ _ (g .most), eq-eqb _ _ (g .counts)),
 )
 

@@ -3,11 +3,11 @@ use mathlib.Core.Path.{refl}
 use Rattle.wire.specs.Bytes.{part}
 use Rattle.header.specs.Header.{headerBytes, headerOf}
 use Rattle.wire.specs.Sum.{plainSum, checksumOf}
-use Rattle.block.specs.Block.{framed, outputShort, lengthGood, writeOf, sumsAgree, readSized, readOf}
+use Rattle.block.specs.Block.{framed, outputShort, lengthGood, refusedWrite, takenWrite, writeOf, sumsAgree, readSized, readOf}
 use Rattle.block.specs.Table.{BlockTable}
 
 pub block-table : BlockTable
-unfolding part headerBytes headerOf plainSum checksumOf framed outputShort lengthGood writeOf sumsAgree readSized readOf
+unfolding part headerBytes headerOf plainSum checksumOf framed outputShort lengthGood refusedWrite takenWrite writeOf sumsAgree readSized readOf
 block-table = record {
   sum-0105 = refl;
   sum-0107 = refl;

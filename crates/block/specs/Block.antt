@@ -11,6 +11,7 @@ use Rattle.wire.specs.Sum.{checksumOf}
 use Rattle.header.specs.Header.{headerBytes, headerOf}
 use Rattle.header.specs.declared.header.Header.{Header}
 use Rattle.block.specs.Refusal.{refusalNumber}
+use Rattle.block.specs.declared.refusal.Refusal.{Refusal}
 use Rattle.block.specs.declared.refusal.Refusal.the-variants.{OutputShort, BlockLength, ChecksumDiffers}
 use Rattle.block.specs.declared.codec.Read.{Read}
 use Rattle.block.specs.declared.codec.Read.the-variants.{Block, Refused}
@@ -60,12 +61,19 @@ abbrev pub readNumber : Read → ℕ
 readNumber (Block h n) = 0
 readNumber (Refused r) = refusalNumber r
 
--- Writing a block of n bytes, a header and data: "1 (writing only), 12". A refused write leaves the output as it
--- was; a taken one answers the bytes it wrote, length byte and sum included, and changes no byte beyond them.
+-- a refused write leaves the output as it was
+unfoldable pub refusedWrite : Refusal → List ℕ → Writing
+refusedWrite r out = writing (NotWritten r) out
+
+-- a taken one answers the bytes it wrote, length byte and sum included, and changes no byte beyond them
+unfoldable pub takenWrite : ℕ → Header → List ℕ → List ℕ → Writing
+takenWrite n h d out = writing (Bytes (n + 3)) (onFront (blockOf h d) out)
+
+-- Writing a block of n bytes, a header and data: "1 (writing only), 12".
 unfoldable pub writeOf : ℕ → Header → List ℕ → List ℕ → Writing
 writeOf n h d out =
-    cond (outputShort out) (writing (NotWritten OutputShort) out)
-    (cond (lengthGood n (10 + length d)) (writing (Bytes (n + 3)) (onFront (blockOf h d) out)) (writing (NotWritten BlockLength) out))
+    cond (outputShort out) (refusedWrite OutputShort out)
+    (cond (lengthGood n (10 + length d)) (takenWrite n h d out) (refusedWrite BlockLength out))
 
 -- refusal 13 is given exactly when this is false: the sum of the N bytes behind the length byte is the one received behind
 -- those, its high byte first

@@ -1,6 +1,4 @@
 // The three commands. What they print has no end of line: `main` adds it.
-ghost use Prim.Native.Nat.{_≤_};
-ghost use lib.ListN.{length};
 use crate::show;
 use crate::text;
 use crate::text::Field;
@@ -135,13 +133,15 @@ fn write_front(room: usize, length: usize, bytes: &[u8; 512], n: usize) {
 
 // Writes the block of the header's ten bytes and the data behind them. Prints the refusal number or 0, the bytes
 // written or `-`, and how many bytes of the output beyond them differ from 0xEE.
-fn write_bytes(length: usize, bytes: &[u8], out: &mut [u8]) {
-    if bytes.len() < 10 {
+fn write_bytes(length: usize, front: &[u8], out: &mut [u8]) {
+    if front.len() < 10 {
         show::unreadable();
         return;
     }
-    let header = Header::from_bytes(first_ten(bytes));
-    match block::write_block(length, header, &bytes[10..], out) {
+    let mut ten = [0u8; 10];
+    bytes::copy(&front[0..10], &mut ten);
+    let header = Header::from_bytes(ten);
+    match block::write_block(length, header, &front[10..], out) {
         Written::Bytes(n) => show_written(out, n),
         Written::Refused(why) => {
             show_refusal(why);
@@ -149,13 +149,6 @@ fn write_bytes(length: usize, bytes: &[u8], out: &mut [u8]) {
             show::next_decimal(changed(out));
         }
     }
-}
-
-// The ten bytes of the header. The caller has seen that they are there.
-fn first_ten(s: &[u8]) -> [u8; 10]
-    requires { ⌜ 10 ≤ length (now s) ⌝ }
-{
-    [s[0], s[1], s[2], s[3], s[4], s[5], s[6], s[7], s[8], s[9]]
 }
 
 // Prints a write that was not refused: 0, the `n` bytes written, and how many bytes beyond them differ from 0xEE.

@@ -1,16 +1,16 @@
 -- Cutting a message: its blocks' numbers, headers and parts. Assumes nothing.
 use Prim.Native.Nat.{ℕ, zero, suc, _+_, _-_, _*_, _≤_, _<_}
 use mathlib.Core.Path.{_≡_, refl, sym, ap, _∙_}
-use mathlib.Core.Bool.{true, cond, _&&_, and-eq-true-iff}
+use mathlib.Core.Bool.{true, cond}
 use mathlib.Core.List.{List, _++_}
 use mathlib.Core.Logic.{_↔_, _⊎_, inl, inr, ⊎-elim}
 use native.Mathlib.Omega.{arith}
-use lib.Dec.{eqb, leb}
+use lib.Dec.{eqb}
 use lib.ListN.{length, take, drop, length-take, length-drop}
 use lib.Seq.{take-add, take-all}
 use borrow.Author.Tests.{leb-true, le-leb, eqb-true, eqb-false, eq-eqb, ne-eqb}
 use Rattle.wire.specs.Bytes.{part}
-use Rattle.wire.proofs.Choice.{either, judged}
+use Rattle.wire.proofs.Choice.{either, judged, three}
 use Rattle.cut.specs.Blocks.{blockCount, partStart, partLength, hasBlock, headerAt, cutOf}
 use Rattle.cut.specs.Theorems.{CutNumbers, BlockOfMessage, CutBlocks, partIn, CutParts, joined, CutJoined}
 use Rattle.header.specs.declared.header.Header.{Header}
@@ -26,10 +26,7 @@ Within n k = (1 ≤ k) × (k ≤ blockCount n) × (k ≤ 32767)
 has-block : (n k : ℕ) → hasBlock n k ≡ true ↔ Within n k
 unfolding hasBlock
 has-block n k = (
-  λ e.
-      let p = and-eq-true-iff (leb 1 k && leb k (blockCount n)) (leb k 32767) .0 e in
-      let q = and-eq-true-iff (leb 1 k) (leb k (blockCount n)) .0 (p .0) in
-      (leb-true _ _ (q .0), leb-true _ _ (q .1), leb-true _ _ (p .1)),
+  λ e. let w = three _ _ _ .0 e in (leb-true _ _ (w .0), leb-true _ _ (w .1), leb-true _ _ (w .2)),
   λ w. simp (le-leb _ _ (w .0), le-leb _ _ (w .1), le-leb _ _ (w .2)),
 )
 

@@ -1,6 +1,6 @@
 -- A choice on a test. Assumes nothing.
 use mathlib.Core.Path.{_≡_, refl}
-use mathlib.Core.Bool.{Bool, true, false, false≢true}
+use mathlib.Core.Bool.{Bool, true, false, _&&_, false≢true}
 use mathlib.Core.Logic.{_↔_}
 
 -- what holds where the test is true, and where it is false, holds at the test
@@ -12,3 +12,9 @@ either false P held failed = failed refl
 pub judged : {A : Type 0} (t : Bool) → (t ≡ true ↔ A) → (P : Bool → Type 0) → (A → P true) → ((A → ⊥) → P false) → P t
 judged true w P held failed = held (w .0 refl)
 judged false w P held failed = failed (λ a. false≢true (w .1 a))
+
+-- three tests in a row are true exactly if each is
+pub three : (a b c : Bool) → a && b && c ≡ true ↔ ((a ≡ true) × (b ≡ true) × (c ≡ true))
+three true true c = (λ e. (refl, refl, e), λ w. w .2)
+three true false c = (λ e. absurd (false≢true e), λ w. absurd (false≢true (w .1)))
+three false b c = (λ e. absurd (false≢true e), λ w. absurd (false≢true (w .0)))

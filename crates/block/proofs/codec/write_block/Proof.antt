@@ -2,7 +2,7 @@ use mathlib.Core.Path.{sym, ap, _∙_}
 use native.Mathlib.Omega.{arith}
 use borrow.Author.Tests.{lt-ltb, le-ltb}
 use borrow.Author.Needs.{needs}
-use Rattle.block.specs.Block.{outputShort, writeOf, writing}
+use Rattle.block.specs.Block.{outputShort, refusedWrite, takenWrite, writeOf, writing}
 use Rattle.block.specs.declared.codec.Written.the-variants.{Bytes}
 use Rattle.block.proofs.Reading.{good-length}
 use Rattle.block.proofs.codec.write_block.Statement.{statement}
@@ -10,7 +10,7 @@ use Rattle.block.proofs.codec.write_block.Tie as tie
 
 -- the length was found good
 taken : tie.Need-returns-2
-unfolding writeOf outputShort
+unfolding writeOf outputShort refusedWrite takenWrite
 taken c =
     let at-put = c .before .before in
     let at-bytes = at-put .before .before in
@@ -19,7 +19,7 @@ taken c =
     (ap (writing (Bytes _)) (rw (at-bytes .bytes .ensures) at (at-put .put-block .ensures)))
 
 pub write-block-spec : {M : Type 1} → statement M
-unfolding writeOf outputShort
+unfolding writeOf outputShort refusedWrite takenWrite
 write-block-spec =
     tie.close
     (tie.spec
