@@ -1,0 +1,230 @@
+-- Calls on a line, in any order, and an onlooker. The onlooker sees which calls are made, what goes out and what is told; of
+-- the line's own numbers it sees none.
+use Prim.Native.Nat.{ℕ, _+_, _<_}
+use mathlib.Core.List.{List, [], _∷_, _++_}
+use mathlib.Core.Bool.{Bool, true, false, cond, _||_}
+use lib.Dec.{eqb}
+use Rattle.line.specs.Codes.{ENQ, EOT, ACK, NAK}
+use Rattle.line.specs.Line.{Heard, heard, stays, freshLine, byteOf, tickOf, drainedOf, askOf, settleOf}
+use Rattle.line.specs.declared.phase.Phase.{Phase}
+use Rattle.line.specs.declared.phase.Phase.the-variants.{Idle, WaitEot, Draining, WaitAck, WaitLength, Body, Silence}
+use Rattle.line.specs.declared.step.Out.{Out}
+use Rattle.line.specs.declared.step.Out.the-variants.{Nothing, Code, Block}
+use Rattle.line.specs.declared.step.Event.{Event}
+use Rattle.line.specs.declared.step.Event.the-variants.{Quiet, Sent, Failed, GaveWay, Up, NoLength, Gap, Bad}
+use Rattle.settings.specs.declared.limits.Limits.{Limits}
+use Rattle.line.specs.declared.line.Line.{Line}
+
+-- the calls of the line. A call of the unit makes one or more of these, `settle` last.
+pub data Call : Type 0 where
+  byte : (b : ℕ) → b < 256 → Call
+  tick drained ask settle : Call
+
+-- whether a call is a byte in, and that byte is x
+abbrev pub comes : ℕ → Call → Bool
+comes x (byte b fits) = eqb b x
+comes x tick = false
+comes x drained = false
+comes x ask = false
+comes x settle = false
+
+-- what a call leaves of a line, and of the received bytes beside it
+abbrev pub called : Limits → Line → List ℕ → Call → Heard
+called c l rs (byte b fits) = byteOf c l b rs
+called c l rs tick = heard (tickOf c l) rs
+called c l rs drained = heard (stays (drainedOf l)) rs
+called c l rs ask = heard (stays (askOf l)) rs
+called c l rs settle = heard (settleOf l) rs
+
+-- ---- a block of ours, as the onlooker sees it
+
+-- none is under way; ENQ is out and EOT is waited for; the block is out and not drained; ACK is waited for
+pub data Ours : Type 0 where
+  none enquired leaving left : Ours
+
+-- what a phase should be to the onlooker
+abbrev pub oursAt : Phase → Ours
+oursAt Idle = none
+oursAt (WaitEot timer tries) = enquired
+oursAt (Draining tries) = leaving
+oursAt (WaitAck timer tries) = left
+oursAt (WaitLength timer) = none
+oursAt (Body timer a) = none
+oursAt (Silence timer fault) = none
+
+-- whether a call puts out code x alone
+abbrev pub puts : ℕ → Out → Bool
+puts x Nothing = false
+puts x (Code y) = eqb y x
+puts x Block = false
+
+-- "until it is sent, fails or gives way"
+abbrev pub ends : Event → Bool
+ends Quiet = false
+ends Sent = true
+ends Failed = true
+ends GaveWay = true
+ends (Up n) = false
+ends NoLength = false
+ends Gap = false
+ends (Bad fault) = false
+
+abbrev pub drains : Ours → Call → Ours
+drains none k = none
+drains enquired k = enquired
+drains leaving (byte b fits) = leaving
+drains leaving tick = leaving
+drains leaving drained = left
+drains leaving ask = leaving
+drains leaving settle = leaving
+drains left k = left
+
+abbrev pub goesOn : Ours → Call → Out → Ours
+goesOn s k Nothing = drains s k
+goesOn s k (Code x) = cond (eqb x ENQ) enquired s
+goesOn s k Block = leaving
+
+abbrev pub oursAfter : Ours → Call → Out → Event → Ours
+oursAfter s k o e = cond (ends e) none (goesOn s k o)
+
+-- a block's first ENQ: none was under way
+abbrev pub begins : Ours → Out → Bool
+begins none o = puts ENQ o
+begins enquired o = false
+begins leaving o = false
+begins left o = false
+
+-- A block is owed from the ask for it, if none is under way, or from giving way, until its first ENQ.
+abbrev pub asked : Ours → Call → Bool → Bool
+asked none (byte b fits) due = due
+asked none tick due = due
+asked none drained due = due
+asked none ask due = true
+asked none settle due = due
+asked enquired k due = due
+asked leaving k due = due
+asked left k due = due
+
+abbrev pub givesWay : Event → Bool → Bool
+givesWay Quiet due = due
+givesWay Sent due = due
+givesWay Failed due = due
+givesWay GaveWay due = true
+givesWay (Up n) due = due
+givesWay NoLength due = due
+givesWay Gap due = due
+givesWay (Bad fault) due = due
+
+-- a tick is spent waiting for EOT or ACK
+abbrev pub waits : Ours → ℕ → Call → ℕ
+waits none n k = n
+waits enquired n (byte b fits) = n
+waits enquired n tick = n + 1
+waits enquired n drained = n
+waits enquired n ask = n
+waits enquired n settle = n
+waits leaving n k = n
+waits left n (byte b fits) = n
+waits left n tick = n + 1
+waits left n drained = n
+waits left n ask = n
+waits left n settle = n
+
+-- ---- a block of the far end: from our EOT to our ACK or NAK
+
+-- what a phase should be to the onlooker
+abbrev pub theirsAt : Phase → Bool
+theirsAt Idle = false
+theirsAt (WaitEot timer tries) = false
+theirsAt (Draining tries) = false
+theirsAt (WaitAck timer tries) = false
+theirsAt (WaitLength timer) = true
+theirsAt (Body timer a) = true
+theirsAt (Silence timer fault) = true
+
+abbrev pub theirsAfter : Bool → Out → Bool
+theirsAfter s o = cond (puts EOT o) true (cond (puts ACK o || puts NAK o) false s)
+
+abbrev pub tookAfter : Bool → ℕ → Call → ℕ
+tookAfter false n k = n
+tookAfter true n (byte b fits) = n
+tookAfter true n tick = n + 1
+tookAfter true n drained = n
+tookAfter true n ask = n
+tookAfter true n settle = n
+
+abbrev pub bytesAfter : Bool → List ℕ → Call → List ℕ
+bytesAfter false bs k = bs
+bytesAfter true bs (byte b fits) = bs ++ (b ∷ [])
+bytesAfter true bs tick = bs
+bytesAfter true bs drained = bs
+bytesAfter true bs ask = bs
+bytesAfter true bs settle = bs
+
+abbrev pub silentAfter : Bool → ℕ → Call → ℕ
+silentAfter false n k = n
+silentAfter true n (byte b fits) = 0
+silentAfter true n tick = n + 1
+silentAfter true n drained = n
+silentAfter true n ask = n
+silentAfter true n settle = n
+
+-- What the onlooker keeps. Each reading starts where what it counts starts, and stays until the next start.
+pub record Seen : Type 0 where
+  pub ours : Ours
+  -- whether a block is owed
+  pub owed : Bool
+  -- since a block's first ENQ: ticks spent waiting for EOT or ACK, and ENQs put out, the first among them
+  pub waited : ℕ
+  pub enqs : ℕ
+  -- whether a block of the far end is being received
+  pub theirs : Bool
+  -- since our EOT: ticks, and the bytes that came
+  pub took : ℕ
+  pub bytes : List ℕ
+  -- ticks since the last of these bytes, or since our EOT if none has come
+  pub silent : ℕ
+
+abbrev pub sees : Seen → Call → Out → Event → Seen
+sees s k o e =
+    record {
+      ours = oursAfter (s .ours) k o e;
+      owed = cond (begins (s .ours) o) false (givesWay e (asked (s .ours) k (s .owed)));
+      waited = cond (begins (s .ours) o) 0 (waits (s .ours) (s .waited) k);
+      enqs = cond (begins (s .ours) o) 1 (cond (puts ENQ o) (s .enqs + 1) (s .enqs));
+      theirs = theirsAfter (s .theirs) o;
+      took = cond (puts EOT o) 0 (tookAfter (s .theirs) (s .took) k);
+      bytes = cond (puts EOT o) [] (bytesAfter (s .theirs) (s .bytes) k);
+      silent = cond (puts EOT o) 0 (silentAfter (s .theirs) (s .silent) k);
+    }
+
+-- ---- any calls from a fresh line
+
+pub record Track : Type 0 where
+  pub line : Line
+  pub received : List ℕ
+  pub seen : Seen
+
+abbrev pub leaves : Seen → Call → Heard → Track
+leaves s k h = record { line = h .step .line; received = h .received; seen = sees s k (h .step .out) (h .step .event) }
+
+abbrev pub answered : Limits → Track → Call → Heard
+answered c t k = called c (t .line) (t .received) k
+
+abbrev pub next : Limits → Track → Call → Track
+next c t k = leaves (t .seen) k (answered c t k)
+
+unfoldable pub track : Limits → Track → List Call → Track
+track c t [] = t
+track c t (k ∷ ks) = track c (next c t k) ks
+
+abbrev pub nothingSeen : Seen
+nothingSeen = record { ours = none; owed = false; waited = 0; enqs = 0; theirs = false; took = 0; bytes = []; silent = 0 }
+
+-- a fresh line, whatever is in the array beside it
+abbrev pub atStart : List ℕ → Track
+atStart rs = record { line = freshLine; received = rs; seen = nothingSeen }
+
+-- what any calls leave
+abbrev pub history : Limits → List ℕ → List Call → Track
+history c rs ks = track c (atStart rs) ks

@@ -1,0 +1,173 @@
+-- What is proved of a line over every list of calls from a fresh start, in the words of the onlooker (`specs/History.antt`).
+-- Each proof is in `proofs/`. What each phase does is in `specs/Rules.antt`.
+use Prim.Native.Nat.{ℕ, _+_, _*_, _≤_, _<_}
+use mathlib.Core.Path.{_≡_}
+use mathlib.Core.List.{List, [], _∷_, _++_}
+use mathlib.Core.Bool.{Bool, true, false}
+use mathlib.Core.Logic.{_⊎_}
+use lib.ListN.{length, take}
+use Rattle.wire.specs.Bytes.{halvesOf}
+use Rattle.wire.specs.Sum.{checksumOf}
+use Rattle.line.specs.Codes.{ENQ, EOT, ACK, NAK}
+use Rattle.settings.specs.Limits.{limitsOf}
+use Rattle.settings.specs.Theorems.{Fits}
+use Rattle.line.specs.Range.{lineInRange}
+use Rattle.line.specs.History.{Call, byte, tick, drained, ask, settle, comes, none, enquired, left, oursAt, theirsAt, begins, puts, Track, answered, next, history}
+use Rattle.line.specs.declared.phase.Phase.{Phase}
+use Rattle.line.specs.declared.phase.Phase.the-variants.{Idle, WaitEot, Draining, WaitAck, WaitLength, Body, Silence}
+use Rattle.line.specs.declared.step.Out.the-variants.{Code, Block}
+use Rattle.line.specs.declared.step.Event.the-variants.{Sent, Failed, GaveWay, Up}
+use Rattle.settings.specs.declared.limits.Limits.{Limits}
+use Rattle.settings.specs.declared.limits.Panel.{Panel}
+
+-- what any calls on a fresh line at limits c leave, with an array of 256 bytes beside it
+pub record Reached (c : Limits) (t : Track) : Type 0 where
+  pub received : List ℕ
+  pub room : length received ≡ 256
+  pub calls : List Call
+  pub so : history c received calls ≡ t
+
+-- a statement on all that can be reached
+abbrev pub Always : (Limits → Track → Type 0) → Type 0
+Always P = (c : Limits) (t : Track) → Reached c t → P c t
+
+-- the onlooker is right: it knows from calls, output and events alone what the line waits for
+pub record SeesRight (t : Track) : Type 0 where
+  pub ours : t .seen .ours ≡ oursAt (t .line .phase)
+  pub theirs : t .seen .theirs ≡ theirsAt (t .line .phase)
+
+abbrev pub OnlookerRight : Type 0
+OnlookerRight = Always (λ c t. SeesRight t)
+
+-- ---- sending
+
+-- demand 3: "(RTY + 1) x (2 x T2 + 1) ticks"
+abbrev pub sendLimit : Limits → ℕ
+sendLimit c = (c .rty + 1) * (2 * c .t2 .0 + 1)
+
+-- demand 3: "A block send is over, or on the host side gives way to the tool, by the time (RTY + 1) x (2 x T2 + 1) ticks were
+-- spent waiting for EOT or ACK since its first ENQ; giving way starts that count anew." The onlooker's count is of ticks called,
+-- whatever bytes came, and starts at a first ENQ alone: "no stray byte .. puts these limits off".
+pub record SendWithin (c : Limits) (t : Track) : Type 0 where
+  pub at-most : t .seen .waited ≤ sendLimit c
+  pub over-by-then : t .seen .waited ≡ sendLimit c → t .seen .ours ≡ none
+
+abbrev pub SendEnds : Type 0
+SendEnds = Always SendWithin
+
+-- the tries that a phase counts are one less than e
+abbrev pub Counts : Phase → ℕ → Type 0
+Counts Idle e = Unit {0}
+Counts (WaitEot timer tries) e = tries + 1 ≡ e
+Counts (Draining tries) e = tries + 1 ≡ e
+Counts (WaitAck timer tries) e = tries + 1 ≡ e
+Counts (WaitLength timer) e = Unit {0}
+Counts (Body timer a) e = Unit {0}
+Counts (Silence timer fault) e = Unit {0}
+
+-- "From a block's first ENQ until it is sent, fails or gives way, tries equal the ENQs put out for it since its count started,
+-- less one."
+abbrev pub TriesAreEnqs : Type 0
+TriesAreEnqs = Always (λ c t. Counts (t .line .phase) (t .seen .enqs))
+
+-- "EOT puts out the whole block": at the first attempt and at each further one
+abbrev pub EachEnqItsBlock : Type 0
+EachEnqItsBlock = Always (λ c t. t .seen .ours ≡ enquired → (k : Call) → comes EOT k ≡ true → answered c t k .step .out ≡ Block)
+
+-- What ends a send, and nothing else does: ACK while it is waited for; as many ENQs as RTY allows; at the slave, an ENQ while
+-- EOT is waited for.
+pub record EndsBy (c : Limits) (t : Track) (k : Call) : Type 0 where
+  pub sent : answered c t k .step .event ≡ Sent → (t .seen .ours ≡ left) × (comes ACK k ≡ true)
+  pub failed : answered c t k .step .event ≡ Failed → next c t k .seen .enqs ≡ c .rty + 1
+  pub gave-way : answered c t k .step .event ≡ GaveWay → (c .master ≡ false) × (t .seen .ours ≡ enquired) × (comes ENQ k ≡ true)
+
+abbrev pub SendEndsBy : Type 0
+SendEndsBy = Always (λ c t. (k : Call) → EndsBy c t k)
+
+-- ---- receiving
+
+-- "T2 + b x T1 + 1"
+abbrev pub receiveLimit : Limits → ℕ → ℕ
+receiveLimit c b = c .t2 .0 + b * c .t1 .0 + 1
+
+-- "A receive in which b bytes came ends by tick T2 + b x T1 + 1."
+pub record ReceiveWithin (c : Limits) (t : Track) : Type 0 where
+  pub at-most : t .seen .took ≤ receiveLimit c (length (t .seen .bytes))
+  pub over-by-then : t .seen .took ≡ receiveLimit c (length (t .seen .bytes)) → t .seen .theirs ≡ false
+
+abbrev pub ReceiveEnds : Type 0
+ReceiveEnds = Always ReceiveWithin
+
+-- how long a sender may be silent: T2 before the length byte, T1 after it
+abbrev pub patience : Limits → List ℕ → ℕ
+patience c [] = c .t2 .0
+patience c (b ∷ bs) = c .t1 .0
+
+-- NAK leaves on the tick that exceeds the limit, after the last byte: no sooner, and no later
+pub record NakWhenSilent (c : Limits) (t : Track) : Type 0 where
+  pub no-sooner : (k : Call) → puts NAK (answered c t k .step .out) ≡ true → next c t k .seen .silent ≡ patience c (next c t k .seen .bytes) + 1
+  pub no-later : t .seen .theirs ≡ true → t .seen .silent ≤ patience c (t .seen .bytes)
+
+abbrev pub NakInTime : Type 0
+NakInTime = Always NakWhenSilent
+
+-- the bytes since our EOT are a block on the line: "length N (10 to 254), N bytes, then the 16-bit sum of those N bytes, high
+-- byte first"
+pub record IsBlock (n : ℕ) (body bytes : List ℕ) : Type 0 where
+  pub not-short : 10 ≤ n
+  pub not-long : n ≤ 254
+  pub counted : length body ≡ n
+  pub came : bytes ≡ n ∷ (body ++ halvesOf (checksumOf body))
+
+-- what goes up is what came, is in the array, and is acknowledged in that call
+pub record Rises (c : Limits) (t : Track) (k : Call) (n : ℕ) : Type 0 where
+  pub whole : IsBlock n (take n (next c t k .received)) (next c t k .seen .bytes)
+  pub acknowledged : answered c t k .step .out ≡ Code ACK
+
+abbrev pub UpIsWhatCame : Type 0
+UpIsWhatCame = Always (λ c t. (k : Call) (n : ℕ) → answered c t k .step .event ≡ Up n → Rises c t k n)
+
+-- "Equal sums: ACK, and the block goes up": every block that came whole does
+abbrev pub WholeGoesUp : Type 0
+WholeGoesUp =
+    Always (λ c t. t .seen .theirs ≡ true → (b : ℕ) (fits : b < 256) (n : ℕ) (body : List ℕ) → IsBlock n body (t .seen .bytes ++ (b ∷ [])) → answered c t (byte b fits) .step .event ≡ Up n)
+
+-- ---- a held block
+
+abbrev pub asks : Call → Bool
+asks (byte b fits) = false
+asks tick = false
+asks drained = false
+asks ask = true
+asks settle = false
+
+-- "A held block (one that gave way, or was asked for while the line was receiving)"
+pub record HeldWhen (c : Limits) (t : Track) : Type 0 where
+  -- the last step of a call leaves none but while the line is receiving
+  pub receiving : next c t settle .line .held ≡ true → next c t settle .seen .theirs ≡ true
+  -- none while a block of ours is under way
+  pub not-sending : t .line .held ≡ true → t .seen .ours ≡ none
+  -- so any other step finds one while the line is receiving, or ended the receive itself
+  pub till-the-end :
+      (t .line .held ≡ true → t .seen .theirs ≡ true) → (k : Call) → asks k ≡ false → next c t k .line .held ≡ true
+      → (t .seen .theirs ≡ true) ⊎ (next c t k .seen .theirs ≡ true)
+
+-- What is held is what is owed: a block that was asked for, or that gave way, and has had no ENQ since. No other is sent, and
+-- none is forgotten: after the last step of a call one is owed only while the line is receiving.
+pub record SendsAsked (c : Limits) (t : Track) : Type 0 where
+  pub held : t .line .held ≡ t .seen .owed
+  pub not-unasked : (k : Call) → begins (t .seen .ours) (answered c t k .step .out) ≡ true → t .seen .owed ≡ true
+  pub not-forgotten : next c t settle .seen .owed ≡ true → next c t settle .seen .theirs ≡ true
+
+abbrev pub SendsWhatIsAsked : Type 0
+SendsWhatIsAsked = Always SendsAsked
+
+abbrev pub HeldWhileReceiving : Type 0
+HeldWhileReceiving = Always HeldWhen
+
+-- ---- ranges
+
+-- the part of refusal 3 that is the line's: at settings of 01's ranges, no state that is reached has a number outside
+-- docs/STATE.md
+abbrev pub ReachedInRange : Type 0
+ReachedInRange = (p : Panel) → Fits p → (t : Track) → Reached (limitsOf p) t → lineInRange (t .line) ≡ true

@@ -1,0 +1,4 @@
+pub mod Panel
+pub mod Timer
+pub mod Limits
+pub mod Theorems
