@@ -44,24 +44,24 @@ not-sending h (Body timer a) f z = refl
 not-sending h (Silence timer fault) f z = refl
 
 -- a step that leaves a block held was made while receiving, or leaves the line receiving
-abbrev Or : Phase → Step → Type 0
-Or p s = s .line .held ≡ true → (theirsAt p ≡ true) ⊎ (theirsAt (s .line .phase) ≡ true)
+abbrev Receiving : Phase → Step → Type 0
+Receiving p s = s .line .held ≡ true → (theirsAt p ≡ true) ⊎ (theirsAt (s .line .phase) ≡ true)
 
-till-the-end : (c : Limits) (h : Bool) (p : Phase) (rs : List ℕ) (k : Call) → Free p h → (h ≡ true → theirsAt p ≡ true) → asks k ≡ false → Or p (called c (lineAt h p) rs k .step)
+till-the-end : (c : Limits) (h : Bool) (p : Phase) (rs : List ℕ) (k : Call) → Free p h → (h ≡ true → theirsAt p ≡ true) → asks k ≡ false → Receiving p (called c (lineAt h p) rs k .step)
 unfolding idleByte eotByte giveWay holding ackByte settleIdle
-till-the-end c h Idle rs (byte b fits) f s a = chosen (Or Idle) (eqb b ENQ) _ _ (λ i z. inl (s z)) (λ i z. inl (s z))
+till-the-end c h Idle rs (byte b fits) f s a = chosen (Receiving Idle) (eqb b ENQ) _ _ (λ i z. inl (s z)) (λ i z. inl (s z))
 till-the-end c h Idle rs tick f s a = λ z. inl (s z)
 till-the-end c h Idle rs drained f s a = λ z. inl (s z)
 till-the-end c h Idle rs ask f s a = λ z. absurd (false≢true (sym a))
-till-the-end c h Idle rs settle f s a = chosen (Or Idle) h _ _ (λ i z. inl (s i)) (λ i z. inl (s z))
+till-the-end c h Idle rs settle f s a = chosen (Receiving Idle) h _ _ (λ i z. inl (s i)) (λ i z. inl (s z))
 till-the-end c h (WaitEot timer tries) rs (byte b fits) f s a =
-    chosen (Or (WaitEot timer tries)) (eqb b EOT) _ _ (λ i z. both f z)
-    (λ i. chosen (Or (WaitEot timer tries)) (eqb b ENQ) _ _
-    (λ j. chosen (Or (WaitEot timer tries)) (c .master) _ _ (λ m z. both f z) (λ m z. inr refl))
+    chosen (Receiving (WaitEot timer tries)) (eqb b EOT) _ _ (λ i z. both f z)
+    (λ i. chosen (Receiving (WaitEot timer tries)) (eqb b ENQ) _ _
+    (λ j. chosen (Receiving (WaitEot timer tries)) (c .master) _ _ (λ m z. both f z) (λ m z. inr refl))
     (λ j z. both f z))
 till-the-end c h (WaitEot timer tries) rs tick f s a =
-    by-timer (c .t2) timer (λ t. Or (WaitEot timer tries) (eotTick c (lineAt h (WaitEot timer tries)) tries t))
-    (λ i. retried (Or (WaitEot timer tries)) c _ tries (λ j z. both f z) (λ j z. both f z)) (λ i z. both f z)
+    by-timer (c .t2) timer (λ t. Receiving (WaitEot timer tries) (eotTick c (lineAt h (WaitEot timer tries)) tries t))
+    (λ i. retried (Receiving (WaitEot timer tries)) c _ tries (λ j z. both f z) (λ j z. both f z)) (λ i z. both f z)
 till-the-end c h (WaitEot timer tries) rs drained f s a = λ z. both f z
 till-the-end c h (WaitEot timer tries) rs ask f s a = λ z. both f z
 till-the-end c h (WaitEot timer tries) rs settle f s a = λ z. both f z
@@ -71,11 +71,11 @@ till-the-end c h (Draining tries) rs drained f s a = λ z. both f z
 till-the-end c h (Draining tries) rs ask f s a = λ z. both f z
 till-the-end c h (Draining tries) rs settle f s a = λ z. both f z
 till-the-end c h (WaitAck timer tries) rs (byte b fits) f s a =
-    chosen (Or (WaitAck timer tries)) (eqb b ACK) _ _ (λ i z. both f z)
-    (λ i. retried (Or (WaitAck timer tries)) c _ tries (λ j z. both f z) (λ j z. both f z))
+    chosen (Receiving (WaitAck timer tries)) (eqb b ACK) _ _ (λ i z. both f z)
+    (λ i. retried (Receiving (WaitAck timer tries)) c _ tries (λ j z. both f z) (λ j z. both f z))
 till-the-end c h (WaitAck timer tries) rs tick f s a =
-    by-timer (c .t2) timer (λ t. Or (WaitAck timer tries) (ackTick c (lineAt h (WaitAck timer tries)) tries t))
-    (λ i. retried (Or (WaitAck timer tries)) c _ tries (λ j z. both f z) (λ j z. both f z)) (λ i z. both f z)
+    by-timer (c .t2) timer (λ t. Receiving (WaitAck timer tries) (ackTick c (lineAt h (WaitAck timer tries)) tries t))
+    (λ i. retried (Receiving (WaitAck timer tries)) c _ tries (λ j z. both f z) (λ j z. both f z)) (λ i z. both f z)
 till-the-end c h (WaitAck timer tries) rs drained f s a = λ z. both f z
 till-the-end c h (WaitAck timer tries) rs ask f s a = λ z. both f z
 till-the-end c h (WaitAck timer tries) rs settle f s a = λ z. both f z

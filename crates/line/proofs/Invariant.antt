@@ -15,7 +15,7 @@ use Rattle.settings.specs.Panel.{between}
 use Rattle.settings.proofs.Panels.{in-between}
 use Rattle.settings.proofs.Timers.{by-timer}
 use Rattle.line.specs.Codes.{ENQ, EOT, ACK, NAK}
-use Rattle.line.specs.Line.{lineAt, holding, giveWay, eotByte, ackByte, eotTick, ackTick, lengthByte, lowByte, bodyByte, lengthTick, bodyTick, silenceTick, idleByte, settleIdle, Heard, heard, goes, stays, takes, listens, opened}
+use Rattle.line.specs.Line.{lineAt, holding, giveWay, eotByte, ackByte, eotTick, ackTick, lengthByte, lowByte, bodyByte, lengthTick, bodyTick, silenceTick, idleByte, settleIdle, Heard, heard, stays, yields, takes, listens, opened}
 use Rattle.line.specs.History.{Call, byte, tick, drained, ask, settle, comes, enquired, left, oursAt, theirsAt, begins, Seen, Track, leaves, called, puts}
 use Rattle.line.specs.Theorems.{sendLimit, receiveLimit, patience, IsBlock}
 use Rattle.line.proofs.Retrying.{retried}
@@ -113,13 +113,11 @@ never e = absurd (false≢true e)
 also : {A B : Type 0} → A → B → A × B
 also a b = (a, b)
 
--- What a call leaves is good where the onlooker is right, the counts are, no block is held that should not be, and the bytes
--- are right; `told` where it has a cause to tell something or to send NAK, `kept` where it does neither.
-told :
-    {c : Limits} {s : Seen} {k : Call} {h : Heard}
-    → Cause c k s (leaves s k h .seen) (h .received) (h .step .out) (h .step .event)
-    → (puts NAK (h .step .out) ≡ true → leaves s k h .seen .silent ≡ patience c (leaves s k h .seen .bytes) + 1)
-    → begins (s .ours) (h .step .out) ≡ false
+-- what a call leaves is good where the onlooker is right, the counts are, no block is held that should not be, and the array
+-- and the bytes are right
+abbrev Leads : Limits → Seen → Call → Heard → Type 0
+Leads c s k h =
+    begins (s .ours) (h .step .out) ≡ false
     → leaves s k h .seen .ours ≡ oursAt (h .step .line .phase)
     → leaves s k h .seen .theirs ≡ theirsAt (h .step .line .phase)
     → leaves s k h .seen .owed ≡ h .step .line .held
@@ -128,6 +126,13 @@ told :
     → length (h .received) ≡ 256
     → Holds (h .step .line .phase) (h .received) (leaves s k h .seen .bytes)
     → Kept c s k h
+
+-- a call that has a cause to tell something, or to send NAK
+told :
+    {c : Limits} {s : Seen} {k : Call} {h : Heard}
+    → Cause c k s (leaves s k h .seen) (h .received) (h .step .out) (h .step .event)
+    → (puts NAK (h .step .out) ≡ true → leaves s k h .seen .silent ≡ patience c (leaves s k h .seen .bytes) + 1)
+    → Leads c s k h
 told why nak more o t d g f m b =
     record {
       good = record { ours = o; theirs = t; owed = d; counts = g; free = f; room = m; bytes = b };
@@ -136,19 +141,8 @@ told why nak more o t d g f m b =
       first = λ z. never (sym more ∙ z);
     }
 
-kept :
-    {c : Limits} {s : Seen} {k : Call} {h : Heard}
-    → h .step .event ≡ Quiet
-    → puts NAK (h .step .out) ≡ false
-    → begins (s .ours) (h .step .out) ≡ false
-    → leaves s k h .seen .ours ≡ oursAt (h .step .line .phase)
-    → leaves s k h .seen .theirs ≡ theirsAt (h .step .line .phase)
-    → leaves s k h .seen .owed ≡ h .step .line .held
-    → At c (h .step .line .phase) (leaves s k h .seen .waited) (leaves s k h .seen .enqs) (leaves s k h .seen .took) (length (leaves s k h .seen .bytes)) (leaves s k h .seen .silent)
-    → Free (h .step .line .phase) (h .step .line .held)
-    → length (h .received) ≡ 256
-    → Holds (h .step .line .phase) (h .received) (leaves s k h .seen .bytes)
-    → Kept c s k h
+-- one that tells nothing and sends no NAK
+kept : {c : Limits} {s : Seen} {k : Call} {h : Heard} → h .step .event ≡ Quiet → puts NAK (h .step .out) ≡ false → Leads c s k h
 kept quiet other more o t d g f m b = told (rw quiet tt) (λ z. never (sym other ∙ z)) more o t d g f m b
 
 -- what all attempts up to this one may wait is within the limit
@@ -187,11 +181,11 @@ step c h (WaitEot timer tries) rs w e r bs q (byte b fits) g f m x =
     let n : At c (WaitLength 0) w e 0 0 0 = (omega arith, fewer c tries w (g .1) (omega arith), refl, refl) in
     chosen P (eqb b EOT) _ _ (λ i. kept refl refl refl refl refl refl (omega arith) f m tt)
     (λ i. chosen P (eqb b ENQ) _ _
-    (λ j. chosen P (c .master) (stays l) (goes (holding l) (WaitLength 0) (Code EOT) GaveWay) (λ y. kept refl refl refl refl refl refl g f m tt)
+    (λ j. chosen P (c .master) (stays l) (yields l) (λ y. kept refl refl refl refl refl refl (omega arith) f m tt)
     (λ y.
     let why : (c .master ≡ false) × (enquired ≡ enquired) × (eqb b ENQ ≡ true) = (y, refl, j) in
     told why never refl refl refl refl n tt m refl))
-    (λ j. kept refl refl refl refl refl refl g f m tt))
+    (λ j. kept refl refl refl refl refl refl (omega arith) f m tt))
 step c h (WaitEot timer tries) rs w e r bs q tick g f m x =
     let P : Step → Type 0 = λ s. Kept c (seenAt h (WaitEot timer tries) w e r bs q) tick (heard s rs) in
     by-timer (c .t2) timer (λ t. P (eotTick c (lineAt h (WaitEot timer tries)) tries t))
@@ -220,7 +214,7 @@ step c h (WaitAck timer tries) rs w e r bs q tick g f m x =
     (λ j. told (omega arith) never refl refl refl refl (also (fewer c tries (w + 1) (g .1) (omega arith)) (g .4)) tt m tt)
     (λ j. kept refl refl refl refl refl refl (omega arith) f m tt))
     (λ i. kept refl refl refl refl refl refl (omega arith) f m tt)
-step c h (WaitAck timer tries) rs w e r bs q drained g f m x = kept refl refl refl refl refl refl g f m tt
+step c h (WaitAck timer tries) rs w e r bs q drained g f m x = kept refl refl refl refl refl refl (omega arith) f m tt
 step c h (WaitAck timer tries) rs w e r bs q ask g f m x = kept refl refl refl refl refl refl g f m tt
 step c h (WaitAck timer tries) rs w e r bs q settle g f m x = kept refl refl refl refl refl refl g f m tt
 step c h (WaitLength timer) rs w e r bs q (byte b fits) g f m x =

@@ -20,13 +20,17 @@ pub data Call : Type 0 where
   byte : (b : ℕ) → b < 256 → Call
   tick drained ask settle : Call
 
+-- a choice on a call: what a byte gives, what a tick gives, what any other gives
+abbrev pub on : {A : Type 0} → Call → (ℕ → A) → A → A → A
+on (byte b fits) atByte atTick other = atByte b
+on tick atByte atTick other = atTick
+on drained atByte atTick other = other
+on ask atByte atTick other = other
+on settle atByte atTick other = other
+
 -- whether a call is a byte in, and that byte is x
 abbrev pub comes : ℕ → Call → Bool
-comes x (byte b fits) = eqb b x
-comes x tick = false
-comes x drained = false
-comes x ask = false
-comes x settle = false
+comes x k = on k (λ b. eqb b x) false false
 
 -- what a call leaves of a line, and of the received bytes beside it
 abbrev pub called : Limits → Line → List ℕ → Call → Heard
@@ -118,17 +122,9 @@ givesWay (Bad fault) due = due
 -- a tick is spent waiting for EOT or ACK
 abbrev pub waits : Ours → ℕ → Call → ℕ
 waits none n k = n
-waits enquired n (byte b fits) = n
-waits enquired n tick = n + 1
-waits enquired n drained = n
-waits enquired n ask = n
-waits enquired n settle = n
+waits enquired n k = on k (λ b. n) (n + 1) n
 waits leaving n k = n
-waits left n (byte b fits) = n
-waits left n tick = n + 1
-waits left n drained = n
-waits left n ask = n
-waits left n settle = n
+waits left n k = on k (λ b. n) (n + 1) n
 
 -- ---- a block of the far end: from our EOT to our ACK or NAK
 
@@ -145,29 +141,17 @@ theirsAt (Silence timer fault) = true
 abbrev pub theirsAfter : Bool → Out → Bool
 theirsAfter s o = cond (puts EOT o) true (cond (puts ACK o || puts NAK o) false s)
 
+-- ticks while it lasts
 abbrev pub tookAfter : Bool → ℕ → Call → ℕ
-tookAfter false n k = n
-tookAfter true n (byte b fits) = n
-tookAfter true n tick = n + 1
-tookAfter true n drained = n
-tookAfter true n ask = n
-tookAfter true n settle = n
+tookAfter theirs n k = cond theirs (on k (λ b. n) (n + 1) n) n
 
+-- bytes while it lasts
 abbrev pub bytesAfter : Bool → List ℕ → Call → List ℕ
-bytesAfter false bs k = bs
-bytesAfter true bs (byte b fits) = bs ++ (b ∷ [])
-bytesAfter true bs tick = bs
-bytesAfter true bs drained = bs
-bytesAfter true bs ask = bs
-bytesAfter true bs settle = bs
+bytesAfter theirs bs k = cond theirs (on k (λ b. bs ++ (b ∷ [])) bs bs) bs
 
+-- ticks since the last of them
 abbrev pub silentAfter : Bool → ℕ → Call → ℕ
-silentAfter false n k = n
-silentAfter true n (byte b fits) = 0
-silentAfter true n tick = n + 1
-silentAfter true n drained = n
-silentAfter true n ask = n
-silentAfter true n settle = n
+silentAfter theirs n k = cond theirs (on k (λ b. 0) (n + 1) n) n
 
 -- What the onlooker keeps. Each reading starts where what it counts starts, and stays until the next start.
 pub record Seen : Type 0 where

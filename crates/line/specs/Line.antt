@@ -62,9 +62,13 @@ again l tries = goes l (WaitEot 0 (tries + 1)) (Code ENQ) Quiet
 unfoldable pub retryOf : Limits → Line → ℕ → Step
 retryOf c l tries = cond (spent c tries) (fails l) (again l tries)
 
+-- "gives EOT and holds the block"
+abbrev pub yields : Line → Step
+yields l = goes (holding l) (WaitLength 0) (Code EOT) GaveWay
+
 -- Waiting for EOT: "ENQ at the slave gives EOT and holds the block; the master drops it."
 unfoldable pub giveWay : Limits → Line → Step
-giveWay c l = cond (c .master) (stays l) (goes (holding l) (WaitLength 0) (Code EOT) GaveWay)
+giveWay c l = cond (c .master) (stays l) (yields l)
 
 -- Waiting for EOT: "EOT puts out the whole block." .. "Other bytes are dropped and do not touch the timer."
 unfoldable pub eotByte : Limits → Line → ℕ → ℕ → Step
@@ -74,12 +78,12 @@ eotByte c l tries b = cond (eqb b EOT) (goes l (Draining tries) Block Quiet) (co
 unfoldable pub ackByte : Limits → Line → ℕ → ℕ → Step
 ackByte c l tries b = cond (eqb b ACK) (goes l Idle Nothing Sent) (retryOf c l tries)
 
--- "Beyond T2: retry." The timer that the tick leaves is told.
+-- Waiting for EOT, a tick: "Beyond T2: retry." What the tick made of the timer is given.
 abbrev pub eotTick : Limits → Line → ℕ → Timer → Step
 eotTick c l tries RunsOut = retryOf c l tries
 eotTick c l tries (Runs timer) = goes l (WaitEot timer tries) Nothing Quiet
 
--- ".. or T2 exceeded: retry."
+-- Waiting for ACK, a tick: ".. or T2 exceeded: retry."
 abbrev pub ackTick : Limits → Line → ℕ → Timer → Step
 ackTick c l tries RunsOut = retryOf c l tries
 ackTick c l tries (Runs timer) = goes l (WaitAck timer tries) Nothing Quiet
@@ -132,17 +136,17 @@ bodyByte l a b rs =
 abbrev pub naks : Line → Event → Step
 naks l why = goes l Idle (Code NAK) why
 
--- Waiting for length: "Beyond T2: NAK."
+-- Waiting for length, a tick: "Beyond T2: NAK."
 abbrev pub lengthTick : Line → Timer → Step
 lengthTick l RunsOut = naks l NoLength
 lengthTick l (Runs timer) = goes l (WaitLength timer) Nothing Quiet
 
--- Body: "Beyond T1: NAK."
+-- Body, a tick: "Beyond T1: NAK."
 abbrev pub bodyTick : Line → Arrival → Timer → Step
 bodyTick l a RunsOut = naks l Gap
 bodyTick l a (Runs timer) = goes l (Body timer a) Nothing Quiet
 
--- Silence: "beyond T1: NAK."
+-- Silence, a tick: "beyond T1: NAK."
 abbrev pub silenceTick : Line → Fault → Timer → Step
 silenceTick l fault RunsOut = naks l (Bad fault)
 silenceTick l fault (Runs timer) = goes l (Silence timer fault) Nothing Quiet

@@ -61,6 +61,7 @@ impl Line {
         Line { held: true, phase }
     }
 
+    // ENQ is answered at once: the line never stalls a sender (E4 R1-1.3).
     fn idle_byte(self, b: u8) -> Step
         ensures { λ r. ⌜ r ≡ idleByte self b ⌝ }
     {
@@ -91,7 +92,7 @@ impl Line {
         }
     }
 
-    // 0.1 s have passed.
+    // 0.1 s have passed. An idle line has no timer, and a draining one counts none (01).
     pub fn tick(self, limits: Limits) -> Step
         ensures { λ r. ⌜ r ≡ tickOf limits self ⌝ }
     {
@@ -145,6 +146,7 @@ impl Line {
         }
     }
 
+    // A held block starts with a count and a timer of its own.
     fn settle_idle(self) -> Step
         ensures { λ r. ⌜ r ≡ settleIdle self ⌝ }
     {
