@@ -226,7 +226,7 @@ step c h (WaitLength timer) rs w e r bs q (byte b fits) g f m x =
     (λ i. kept refl refl refl refl refl refl (omega arith) tt m (bad-length b [] refl (λ ten most. i (ten, most)))))
 step c h (WaitLength timer) rs w e r bs q tick g f m x =
     by-timer (c .t2) timer (λ t. Kept c (seenAt h (WaitLength timer) w e r bs q) tick (heard (lengthTick (lineAt h (WaitLength timer)) t) rs))
-    (λ i. told tt (λ z. rw x (omega arith)) refl refl refl refl (also (g .1) (omega arith)) tt m tt) (λ i. kept refl refl refl refl refl refl (omega arith) tt m x)
+    (λ i. told tt (λ z. rw x (omega arith)) refl refl refl refl (omega arith) tt m tt) (λ i. kept refl refl refl refl refl refl (omega arith) tt m x)
 step c h (WaitLength timer) rs w e r bs q drained g f m x = kept refl refl refl refl refl refl g tt m x
 step c h (WaitLength timer) rs w e r bs q ask g f m x = kept refl refl refl refl refl refl g tt m x
 step c h (WaitLength timer) rs w e r bs q settle g f m x = kept refl refl refl refl refl refl g tt m x
@@ -242,14 +242,14 @@ step c h (Body timer a) rs w e r bs q (byte b fits) g f m x =
     (λ l. kept refl refl refl refl refl refl (rw (snoc bs b) (omega arith)) tt m (coming-wrong a b rs bs m (g .5) (ltb-false _ _ i) (eqb-false _ _ j) x))))
 step c h (Body timer a) rs w e r bs q tick g f m x =
     by-timer (c .t1) timer (λ t. Kept c (seenAt h (Body timer a) w e r bs q) tick (heard (bodyTick (lineAt h (Body timer a)) a t) rs))
-    (λ i. told tt (λ z. rw (x .came) (omega arith)) refl refl refl refl (also (g .1) (omega arith)) tt m tt) (λ i. kept refl refl refl refl refl refl (omega arith) tt m x)
+    (λ i. told tt (λ z. rw (x .came) (omega arith)) refl refl refl refl (omega arith) tt m tt) (λ i. kept refl refl refl refl refl refl (omega arith) tt m x)
 step c h (Body timer a) rs w e r bs q drained g f m x = kept refl refl refl refl refl refl g tt m x
 step c h (Body timer a) rs w e r bs q ask g f m x = kept refl refl refl refl refl refl g tt m x
 step c h (Body timer a) rs w e r bs q settle g f m x = kept refl refl refl refl refl refl g tt m x
 step c h (Silence timer fault) rs w e r bs q (byte b fits) g f m x = kept refl refl refl refl refl refl (rw (snoc bs b) (omega arith)) tt m (refused-more bs b x)
 step c h (Silence timer fault) rs w e r bs q tick g f m x =
     by-timer (c .t1) timer (λ t. Kept c (seenAt h (Silence timer fault) w e r bs q) tick (heard (silenceTick (lineAt h (Silence timer fault)) fault t) rs))
-    (λ i. told tt (λ z. rw (after-refused c bs x) (omega arith)) refl refl refl refl (also (g .1) (omega arith)) tt m tt) (λ i. kept refl refl refl refl refl refl (omega arith) tt m x)
+    (λ i. told tt (λ z. rw (after-refused c bs x) (omega arith)) refl refl refl refl (omega arith) tt m tt) (λ i. kept refl refl refl refl refl refl (omega arith) tt m x)
 step c h (Silence timer fault) rs w e r bs q drained g f m x = kept refl refl refl refl refl refl g tt m x
 step c h (Silence timer fault) rs w e r bs q ask g f m x = kept refl refl refl refl refl refl g tt m x
 step c h (Silence timer fault) rs w e r bs q settle g f m x = kept refl refl refl refl refl refl g tt m x

@@ -8,15 +8,20 @@ use lib.Dec.{ltb, eqb}
 use lib.ListN.{length}
 use borrow.Author.Tests.{le-ltb, eq-eqb, ne-eqb}
 use Rattle.wire.specs.Bytes.{pairOf}
-use Rattle.line.specs.Line.{lineAt, bodyByte, lowByte}
-use Rattle.line.specs.History.{byte, theirsAt, called, answered, next}
+use Rattle.line.specs.Line.{lineAt, idleByte, eotByte, giveWay, ackByte, lengthByte, bodyByte, lowByte, Heard}
+use Rattle.settings.specs.Panel.{between}
+use Rattle.wire.proofs.Choice.{chosen}
+use Rattle.line.specs.Codes.{ENQ, EOT, ACK, NAK}
+use Rattle.line.specs.History.{byte, puts, theirsAt, called, answered, next}
 use Rattle.line.specs.Theorems.{receiveLimit, ReceiveEnds, NakInTime, patience, IsBlock, UpIsWhatCame, WholeGoesUp}
+use Rattle.line.proofs.Retrying.{retried}
 use Rattle.line.proofs.Arrivals.{coming-last, refused-last, after-count}
 use Rattle.line.proofs.Invariant.{At, Holds, Cause, after-refused}
 use Rattle.line.proofs.Always.{always, after-one}
 use Rattle.line.specs.declared.phase.Phase.{Phase}
 use Rattle.line.specs.declared.phase.Phase.the-variants.{Idle, WaitEot, Draining, WaitAck, WaitLength, Body, Silence}
 use Rattle.line.specs.declared.step.Event.the-variants.{Up}
+use Rattle.line.specs.declared.step.Step.{Step}
 use Rattle.settings.specs.declared.limits.Limits.{Limits}
 
 -- while a block is received, less than the limit was taken
@@ -45,10 +50,34 @@ patient c (WaitLength timer) w e r q rs bs g x z = rw x (omega arith)
 patient c (Body timer a) w e r q rs bs g x z = rw (x .came) (omega arith)
 patient c (Silence timer fault) w e r q rs bs g x z = rw (after-refused c bs x) (omega arith)
 
+-- a byte is never answered by NAK
+abbrev Mute : Step → Type 0
+Mute s = puts NAK (s .out) ≡ false
+
+no-nak : (c : Limits) (h : Bool) (p : Phase) (rs : List ℕ) (b : ℕ) (fits : b < 256) → Mute (called c (lineAt h p) rs (byte b fits) .step)
+unfolding idleByte eotByte giveWay ackByte lengthByte bodyByte lowByte
+no-nak c h Idle rs b fits = chosen Mute (eqb b ENQ) _ _ (λ i. refl) (λ i. refl)
+no-nak c h (WaitEot timer tries) rs b fits =
+    chosen Mute (eqb b EOT) _ _ (λ i. refl)
+    (λ i. chosen Mute (eqb b ENQ) _ _
+    (λ j. chosen Mute (c .master) _ _ (λ l. refl) (λ l. refl))
+    (λ j. refl))
+no-nak c h (Draining tries) rs b fits = refl
+no-nak c h (WaitAck timer tries) rs b fits =
+    chosen Mute (eqb b ACK) _ _ (λ i. refl)
+    (λ i. retried Mute c (lineAt h (WaitAck timer tries)) tries (λ j. refl) (λ j. refl))
+no-nak c h (WaitLength timer) rs b fits = chosen Mute (between 10 b 254) _ _ (λ i. refl) (λ i. refl)
+no-nak c h (Body timer a) rs b fits =
+    chosen (λ (x : Heard). Mute (x .step)) (ltb (a .got) (a .length)) _ _ (λ i. refl)
+    (λ i. chosen (λ (x : Heard). Mute (x .step)) (eqb (a .got) (a .length)) _ _ (λ j. refl)
+    (λ j. chosen Mute (eqb (pairOf (a .high) b) (a .sum)) _ _ (λ l. refl) (λ l. refl)))
+no-nak c h (Silence timer fault) rs b fits = refl
+
 pub nak-in-time : NakInTime
 nak-in-time c t w =
     let g = always c t w in
     record {
+      to-no-byte = λ b fits. no-nak c (t .line .held) (t .line .phase) (t .received) b fits;
       no-sooner = λ k e. after-one c t w k .nak e;
       no-later = λ e. patient c (t .line .phase) (t .seen .waited) (t .seen .enqs) (t .seen .took) (t .seen .silent) (t .received) (t .seen .bytes) (g .counts) (g .bytes) (sym (g .theirs) ∙ e);
     }

@@ -7,7 +7,7 @@ use native.Mathlib.Omega.{arith}
 use lib.ListN.{length}
 use Rattle.line.specs.Codes.{EOT}
 use Rattle.line.specs.Line.{lineAt, eotByte}
-use Rattle.line.specs.History.{Call, byte, tick, drained, ask, settle, comes, none, enquired, oursAt, called, answered, next}
+use Rattle.line.specs.History.{Call, byte, tick, drained, ask, settle, comes, Ours, none, enquired, leaving, left, oursAt, called, answered, next}
 use Rattle.line.specs.Theorems.{SendEnds, sendLimit, Counts, TriesAreEnqs, EachEnqItsBlock, SendEndsBy, OnlookerRight}
 use Rattle.line.proofs.Invariant.{At, Cause, fewer}
 use Rattle.line.proofs.Always.{always, after-one}
@@ -50,8 +50,14 @@ tries-are-enqs c t w =
     counted c (t .line .phase) (t .seen .waited) (t .seen .enqs) (t .seen .took) (length (t .seen .bytes)) (t .seen .silent) (g .counts)
 
 -- only where EOT is waited for
-clash : {A : Type 0} → none ≡ enquired → A
-clash e = let z : _≡_ {A = ℕ} 0 1 = cc in absurd (omega arith)
+abbrev Enquired : Ours → Type 0
+Enquired none = ⊥
+Enquired enquired = Unit {0}
+Enquired leaving = ⊥
+Enquired left = ⊥
+
+is-enquired : (o : Ours) → o ≡ enquired → Enquired o
+is-enquired o e = subst Enquired (sym e) tt
 
 eot-answered : (c : Limits) (h : Bool) (p : Phase) (rs : List ℕ) (k : Call) → oursAt p ≡ enquired → comes EOT k ≡ true → called c (lineAt h p) rs k .step .out ≡ Block
 unfolding eotByte
@@ -60,12 +66,12 @@ eot-answered c h (WaitEot timer tries) rs tick e i = absurd (false≢true i)
 eot-answered c h (WaitEot timer tries) rs drained e i = absurd (false≢true i)
 eot-answered c h (WaitEot timer tries) rs ask e i = absurd (false≢true i)
 eot-answered c h (WaitEot timer tries) rs settle e i = absurd (false≢true i)
-eot-answered c h Idle rs k e i = clash e
-eot-answered c h (Draining tries) rs k e i = let z : _≡_ {A = ℕ} 0 1 = cc in absurd (omega arith)
-eot-answered c h (WaitAck timer tries) rs k e i = let z : _≡_ {A = ℕ} 0 1 = cc in absurd (omega arith)
-eot-answered c h (WaitLength timer) rs k e i = clash e
-eot-answered c h (Body timer a) rs k e i = clash e
-eot-answered c h (Silence timer fault) rs k e i = clash e
+eot-answered c h Idle rs k e i = absurd (is-enquired none e)
+eot-answered c h (Draining tries) rs k e i = absurd (is-enquired leaving e)
+eot-answered c h (WaitAck timer tries) rs k e i = absurd (is-enquired left e)
+eot-answered c h (WaitLength timer) rs k e i = absurd (is-enquired none e)
+eot-answered c h (Body timer a) rs k e i = absurd (is-enquired none e)
+eot-answered c h (Silence timer fault) rs k e i = absurd (is-enquired none e)
 
 pub each-enq-its-block : EachEnqItsBlock
 each-enq-its-block c t w e k i =

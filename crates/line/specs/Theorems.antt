@@ -105,6 +105,8 @@ patience c (b ∷ bs) = c .t1 .0
 
 -- NAK leaves on the tick that exceeds the limit, after the last byte: no sooner, and no later
 pub record NakWhenSilent (c : Limits) (t : Track) : Type 0 where
+  -- no byte is answered by it: the sender may still be talking
+  pub to-no-byte : (b : ℕ) (fits : b < 256) → puts NAK (answered c t (byte b fits) .step .out) ≡ false
   pub no-sooner : (k : Call) → puts NAK (answered c t k .step .out) ≡ true → next c t k .seen .silent ≡ patience c (next c t k .seen .bytes) + 1
   pub no-later : t .seen .theirs ≡ true → t .seen .silent ≤ patience c (t .seen .bytes)
 
