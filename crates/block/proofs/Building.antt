@@ -5,10 +5,10 @@ use mathlib.Core.Path.{_≡_, refl, ap, _∙_}
 use mathlib.Core.List.{List, [], _∷_, _++_}
 use native.Mathlib.Omega.{arith}
 use lib.ListN.{length, length-append}
-use Rattle.block.specs.Output.{splice, onFront}
+use Rattle.wire.specs.Lent.{splice, onFront}
 use Rattle.wire.specs.Sum.{checksumOf}
 use Rattle.block.specs.Block.{framed}
-use Rattle.block.proofs.Splices.{front-more}
+use Rattle.wire.proofs.Lent.{front-more}
 
 pub built : (h d out a b c e first last : List ℕ) → length h ≡ 10 → first ≡ length (h ++ d) ∷ [] → last ≡ halvesOf (checksumOf (h ++ d))
     → a ≡ splice out 0 first → b ≡ splice a 1 h → c ≡ splice b 11 d → e ≡ splice c (10 + length d + 1) last → e ≡ onFront (framed (h ++ d)) out

@@ -1,7 +1,6 @@
--- `Splices`: bytes put into lent memory. `Building`: the four writes of a block. `Frames`: what stands where in a block.
+-- `Building`: the four writes of a block. `Frames`: what stands where in a block.
 -- `Reading`, `Writing`: what a read and a write answer, and when. `RoundTrip`: what is written reads back. `Damage`: what was
 -- damaged does not. `Table`: 01's rows. `Determined`: what each public contract determines.
-pub mod Splices
 pub mod Building
 pub mod Frames
 pub mod Reading

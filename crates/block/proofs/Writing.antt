@@ -10,7 +10,7 @@ use lib.Seq.{take-at, drop-at}
 use borrow.Author.Tests.{ltb-true, lt-ltb}
 use Rattle.header.specs.Header.{headerBytes}
 use Rattle.header.specs.declared.header.Header.{Header}
-use Rattle.block.specs.Output.{onFront}
+use Rattle.wire.specs.Lent.{onFront}
 use Rattle.wire.specs.Sum.{checksumOf}
 use Rattle.block.specs.Block.{framed, blockOf, outputShort, GoodLength, lengthGood, Writing, refusedWrite, takenWrite, writtenNumber, writeOf}
 use Rattle.block.specs.Theorems.{WriteRefuses, RefusedWritesNothing, WritesOnly, TakenWrites}

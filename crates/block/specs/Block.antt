@@ -6,7 +6,7 @@ use mathlib.Core.List.{List, [], _∷_, _++_}
 use lib.Dec.{eqb, leb, ltb}
 use lib.ListN.{length, getD}
 use Rattle.wire.specs.Bytes.{part, pairOf, halvesOf}
-use Rattle.block.specs.Output.{onFront}
+use Rattle.wire.specs.Lent.{onFront}
 use Rattle.wire.specs.Sum.{checksumOf}
 use Rattle.header.specs.Header.{headerBytes, headerOf}
 use Rattle.header.specs.declared.header.Header.{Header}

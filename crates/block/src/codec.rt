@@ -5,7 +5,7 @@ ghost use mathlib.Core.List.{_++_};
 ghost use lib.ListN.{length};
 ghost use Rattle.header.specs.Header.{firstTen};
 ghost use Rattle.wire.specs.Bytes.{part};
-ghost use Rattle.block.specs.Output.{onFront, splice};
+ghost use Rattle.wire.specs.Lent.{onFront, splice};
 ghost use Rattle.block.specs.Block.{GoodLength, dataIn, framed, lengthGood, readOf, readSized, writeOf, writing};
 use crate::refusal::Refusal;
 use header::Header;

@@ -104,7 +104,7 @@ cut-parts h of d k start size e =
     simp (length-take, length-drop) (omega arith)
 
 -- the parts of the first k blocks, joined, are the first k times 244 bytes
-joined-front : (h : Header) (d : List ℕ) (k : ℕ) → k ≤ blockCount (length d) → blockCount (length d) ≤ 32767 → joined h d k ≡ take (k * 244) d
+pub joined-front : (h : Header) (d : List ℕ) (k : ℕ) → k ≤ blockCount (length d) → blockCount (length d) ≤ 32767 → joined h d k ≡ take (k * 244) d
 unfolding joined part
 joined-front h d zero most fits = refl
 joined-front h d (suc k) most fits =

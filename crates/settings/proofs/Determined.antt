@@ -21,6 +21,10 @@ use Rattle.settings.proofs.limits.Panel.limits.Reads as panel-limits-re
 use Rattle.settings.proofs.limits.Panel.limits.Kinds as panel-limits-kinds
 use Rattle.settings.proofs.limits.Limits.in_range.Reads as limits-in-range-reads
 use Rattle.settings.proofs.limits.Limits.in_range.Kinds as limits-in-range-kinds
+use Rattle.settings.proofs.terms.MessagePanel.terms.Reads as terms-reads
+use Rattle.settings.proofs.terms.MessagePanel.terms.Kinds as terms-kinds
+use Rattle.settings.proofs.terms.Terms.in_range.Reads as terms-in-range-reads
+use Rattle.settings.proofs.terms.Terms.in_range.Kinds as terms-in-range-kinds
 
 pub tenths-ticks-determined : Determined 0 tenths-ticks-kinds.ps tenths-ticks-kinds.r tenths-ticks-reads.Asked tenths-ticks-reads.Post (λ κs r s. r)
 tenths-ticks-determined κs a = (tt, λ x y s t p q. p ∙ sym q)
@@ -51,3 +55,9 @@ panel-limits-determined κs a = (tt, λ x y s t p q. p ∙ sym q)
 
 pub limits-in-range-determined : Determined 0 limits-in-range-kinds.ps limits-in-range-kinds.r limits-in-range-reads.Asked limits-in-range-reads.Post (λ κs r s. r)
 limits-in-range-determined κs a = (tt, λ x y s t p q. p ∙ sym q)
+
+pub terms-determined : Determined 0 terms-kinds.ps terms-kinds.r terms-reads.Asked terms-reads.Post (λ κs r s. r)
+terms-determined κs a = (tt, λ x y s t p q. p ∙ sym q)
+
+pub terms-in-range-determined : Determined 0 terms-in-range-kinds.ps terms-in-range-kinds.r terms-in-range-reads.Asked terms-in-range-reads.Post (λ κs r s. r)
+terms-in-range-determined κs a = (tt, λ x y s t p q. p ∙ sym q)

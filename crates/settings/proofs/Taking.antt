@@ -36,7 +36,7 @@ in-range p f =
     simp (le-leb 1 (p .t1 .0) (f .t1-least), le-leb (p .t1 .0) 100 (f .t1-most), le-leb 2 (limitsOf p .t2 .0) (omega (arith, f .t2-least)), le-leb (limitsOf p .t2 .0) 250 (omega (arith, f .t2-most)), le-leb (p .rty) 31 (f .rty-most))
 
 -- 0 is not 4
-zero-four : _≡_ {A = ℕ} 0 4 → ⊥
+pub zero-four : _≡_ {A = ℕ} 0 4 → ⊥
 zero-four e = omega arith
 
 pub taken-in-range : TakenInRange

@@ -1,4 +1,5 @@
 pub mod Panel
 pub mod Timer
 pub mod Limits
+pub mod Terms
 pub mod Theorems

@@ -6,12 +6,15 @@ use mathlib.Core.Logic.{_↔_}
 use Rattle.settings.specs.Panel.{tenthsTicks, fifthsTicks, secondsTicks, tenthsInRange, fifthsInRange, secondsInRange}
 use Rattle.settings.specs.Timer.{ticked}
 use Rattle.settings.specs.Limits.{limitsOf, takenOf, takenNumber, limitsInRange}
+use Rattle.settings.specs.Terms.{termsOf, agreedOf, agreedNumber, termsInRange}
 use Rattle.settings.specs.declared.panel.Tenths.{Tenths}
 use Rattle.settings.specs.declared.panel.Fifths.{Fifths}
 use Rattle.settings.specs.declared.panel.Seconds.{Seconds}
 use Rattle.settings.specs.declared.panel.Ticks.{Ticks}
 use Rattle.settings.specs.declared.limits.Panel.{Panel}
 use Rattle.settings.specs.declared.limits.Taken.the-variants as taken
+use Rattle.settings.specs.declared.terms.MessagePanel.{MessagePanel}
+use Rattle.settings.specs.declared.terms.Agreed.the-variants as agreed
 use Rattle.settings.specs.declared.timer.Timer.{Timer}
 use Rattle.settings.specs.declared.timer.Timer.the-variants.{RunsOut, Runs}
 
@@ -59,3 +62,24 @@ pub record SettingsTaken (p : Panel) : Type 0 where
 
 abbrev pub TakenInRange : Type 0
 TakenInRange = (p : Panel) → SettingsTaken p
+
+-- the ranges of 01's table for the settings of the transactions
+pub record FitsTerms (p : MessagePanel) : Type 0 where
+  pub t3-least : 1 ≤ p .t3 .0
+  pub t3-most : p .t3 .0 ≤ 120
+  pub t4-least : 1 ≤ p .t4 .0
+  pub t4-most : p .t4 .0 ≤ 120
+  pub device-most : p .device ≤ 32767
+  pub check-most : p .duplicates ≤ 1
+
+-- refusal 4 again: given exactly when one of these is out of range; else they are taken, in ticks, and in the ranges of
+-- docs/STATE.md
+pub record TermsTaken (p : MessagePanel) : Type 0 where
+  pub taken : FitsTerms p → agreedOf p ≡ agreed.Terms (termsOf p)
+  pub four : agreedNumber (agreedOf p) ≡ 4 ↔ (FitsTerms p → ⊥)
+  pub in-range : FitsTerms p → termsInRange (termsOf p) ≡ true
+  -- "duplicate check on/off 0, 1"
+  pub check : (termsOf p .duplicates ≡ true) ↔ (p .duplicates ≡ 1)
+
+abbrev pub TermsInRange : Type 0
+TermsInRange = (p : MessagePanel) → TermsTaken p

@@ -1,7 +1,7 @@
 -- A choice on a test. Assumes nothing.
-use mathlib.Core.Path.{_≡_, refl}
-use mathlib.Core.Bool.{Bool, true, false, cond, _&&_, false≢true}
-use mathlib.Core.Logic.{_↔_}
+use mathlib.Core.Path.{_≡_, refl, sym}
+use mathlib.Core.Bool.{Bool, true, false, cond, _&&_, _||_, Bool·beq, false≢true}
+use mathlib.Core.Logic.{_↔_, _⊎_, inl, inr, ⊎-elim}
 
 -- what holds where the test is true, and where it is false, holds at the test
 pub either : (t : Bool) (P : Bool → Type 0) → (t ≡ true → P true) → (t ≡ false → P false) → P t
@@ -28,3 +28,15 @@ pub three : (a b c : Bool) → a && b && c ≡ true ↔ ((a ≡ true) × (b ≡ 
 three true true c = (λ e. (refl, refl, e), λ w. w .2)
 three true false c = (λ e. absurd (false≢true e), λ w. absurd (false≢true (w .1)))
 three false b c = (λ e. absurd (false≢true e), λ w. absurd (false≢true (w .0)))
+
+-- one of two tests is true exactly if A holds or B does, where the one is a test of A and the other of B
+pub either-of : (a b : Bool) (A B : Type 0) → (a ≡ true ↔ A) → (b ≡ true ↔ B) → a || b ≡ true ↔ (A ⊎ B)
+either-of true b A B v w = (λ e. inl (v .0 refl), λ s. refl)
+either-of false b A B v w = (λ e. inr (w .0 e), ⊎-elim (λ x. absurd (false≢true (v .1 x))) (w .1))
+
+-- two bits are the same exactly if they are equal
+pub same-bits : (a b : Bool) → Bool·beq a b ≡ true ↔ (a ≡ b)
+same-bits true true = (λ e. refl, λ e. refl)
+same-bits true false = (λ e. absurd (false≢true e), λ e. absurd (false≢true (sym e)))
+same-bits false true = (λ e. absurd (false≢true e), λ e. absurd (false≢true e))
+same-bits false false = (λ e. refl, λ e. refl)

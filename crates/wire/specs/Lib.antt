@@ -1,4 +1,5 @@
 pub mod Bytes
+pub mod Lent
 pub mod Sum
 pub mod Theorems
 pub mod Table

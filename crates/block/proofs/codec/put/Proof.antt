@@ -1,4 +1,4 @@
-use Rattle.block.proofs.Splices.{copied}
+use Rattle.wire.proofs.Lent.{copied}
 use borrow.Author.Needs.{needs}
 use Rattle.block.proofs.codec.put.Statement.{statement}
 use Rattle.block.proofs.codec.put.Tie as tie

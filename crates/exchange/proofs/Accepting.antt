@@ -1,0 +1,272 @@
+-- What a request leaves, refused or accepted (`specs/Refusals.antt`). Assumes nothing.
+use Prim.Native.Nat.{ℕ, _<_}
+use mathlib.Core.Path.{_≡_, refl, sym, ap, subst, _∙_}
+use mathlib.Core.Bool.{Bool, true, false, not, _&&_, false≢true, true≢false}
+use mathlib.Core.List.{List}
+use mathlib.Core.Logic.{_≢_}
+use native.Mathlib.Omega.{arith}
+use lib.Dec.{ltb}
+use lib.ListN.{length, getD, set, List·getD-eq-default}
+use lib.Seq.{getD-set-same, getD-set-other}
+use borrow.Author.Tests.{ltb-true, ltb-false}
+use Rattle.wire.proofs.Choice.{either, chosen}
+use Rattle.header.specs.Header.{headerBytes}
+use Rattle.header.proofs.Headers.{header-and-back}
+use Rattle.header.specs.declared.header.Header.{Header}
+use Rattle.settings.specs.declared.terms.Terms.{Terms}
+use Rattle.place.specs.Own.{primaryOf as ownPrimary, freshOwn, standingAt, givenBy, ownClaimed, releasedAt as ownReleasedAt, ownReleased, ownHasVerdict}
+use Rattle.place.specs.Incoming.{primaryOf as incomingPrimary, freshIncoming, completeAt, repliedAt, incomingIsReplied, incomingAnswered, releasedAt as incomingReleasedAt, incomingReleased}
+use Rattle.place.specs.declared.own.OwnStage.{OwnStage}
+use Rattle.place.specs.declared.own.OwnStage.the-variants as own
+use Rattle.place.specs.declared.own.Own.{Own}
+use Rattle.place.specs.declared.incoming.IncomingStage.{IncomingStage}
+use Rattle.place.specs.declared.incoming.IncomingStage.the-variants as incoming
+use Rattle.place.specs.declared.incoming.Incoming.{Incoming}
+use Rattle.table.specs.Own.{freeOwn}
+use Rattle.table.specs.declared.find.Found.{Found}
+use Rattle.table.specs.declared.find.Found.the-variants.{At, Nowhere}
+use Rattle.exchange.specs.Exchange.{ownPlace, incomingPlace, gotVerdict, latestAfter, putOwn, putIncoming, withSending}
+use Rattle.exchange.specs.Send.{replyTo}
+use Rattle.exchange.specs.Request.{Asking, refusedBy, refused, primaryHeader, badPrimary, badFunction, dataLong, isSending, notReady, claimedAt, openBy, openFree, openOf, replyAccepted, replyReady, replyOf, releaseOwn, releaseIncoming}
+use Rattle.exchange.specs.Rules.{Fours, LowestAt}
+use Rattle.exchange.specs.Refusals.{OwnFree, numbered, RefusedChangesNothing, numberGiven, AsAsked, Opened, AcceptedOpens, RepliesTo, Replied, AcceptedReplies, OwnReleased, IncomingReleased, AcceptedReleases}
+use Rattle.exchange.specs.declared.exchange.Exchange.{Exchange}
+use Rattle.exchange.specs.declared.request.Refusal.{Refusal}
+use Rattle.exchange.specs.declared.request.Refusal.the-variants as refusal
+use Rattle.exchange.specs.declared.request.Asked.{Asked}
+use Rattle.exchange.specs.declared.request.Asked.the-variants.{Taken, Refused}
+use Rattle.exchange.specs.declared.request.Primary.{Primary}
+use Rattle.exchange.specs.declared.request.Requested.{Requested}
+use Rattle.exchange.specs.declared.send.Outgoing.the-variants as outgoing
+use Rattle.exchange.proofs.Refusing.{lowest-free}
+
+-- ---- what a request can come to
+
+-- the place that is taken; a refused request takes none
+abbrev isTaken : Asked → Bool
+isTaken (Taken p) = true
+isTaken (Refused r) = false
+
+abbrev takenAt : Asked → ℕ
+takenAt (Taken p) = p
+takenAt (Refused r) = 0
+
+by-opening :
+    (c : Terms) (x : Exchange) (q : Primary) (d room : List ℕ) (P : Asking → Type 0)
+    → ((r : Refusal) → P (refused x r room)) → ((p : ℕ) → freeOwn (x .own) ≡ At p → P (openBy (At p) c x q d room)) → P (openOf c x q d room)
+unfolding openOf openFree
+by-opening c x q d room P refuse take =
+    chosen P (badPrimary q) _ _ (λ e. refuse refusal.Message)
+    (λ e.
+    chosen P (dataLong (length d)) _ _ (λ l. refuse refusal.DataLong)
+    (λ l. chosen P (isSending x) _ _ (λ s. refuse refusal.Sending) (λ s. by-free (freeOwn (x .own)) refl)))
+  where
+    by-free : (f : Found) → freeOwn (x .own) ≡ f → P (openBy f c x q d room)
+    by-free (At p) e = take p e
+    by-free Nowhere e = refuse refusal.NoPlace
+
+by-replying :
+    (x : Exchange) (p f : ℕ) (d room : List ℕ) (P : Asking → Type 0)
+    → ((r : Refusal) → P (refused x r room))
+    → (notReady (incomingPlace x p) ≡ false → incomingIsReplied (incomingPlace x p) ≡ false → P (replyAccepted x p f d room)) → P (replyOf x p f d room)
+unfolding replyOf replyReady
+by-replying x p f d room P refuse take =
+    chosen P (notReady (incomingPlace x p)) _ _ (λ e. refuse refusal.Place)
+    (λ ready.
+    chosen P (not (incomingPrimary (incomingPlace x p) .w)) _ _ (λ e. refuse refusal.NotWanted)
+    (λ e.
+    chosen P (incomingIsReplied (incomingPlace x p)) _ _ (λ b. refuse refusal.Replied)
+    (λ new.
+    chosen P (badFunction (incomingPrimary (incomingPlace x p)) f) _ _ (λ b. refuse refusal.Message)
+    (λ b.
+    chosen P (dataLong (length d)) _ _ (λ l. refuse refusal.DataLong)
+    (λ l. chosen P (isSending x) _ _ (λ s. refuse refusal.Sending) (λ s. take ready new))))))
+
+-- ---- refused
+
+pub refused-changes-nothing : RefusedChangesNothing
+unfolding refused refusedBy replyAccepted releaseOwn releaseIncoming
+refused-changes-nothing = record {
+  opening = λ c x q d room.
+      by-opening c x q d room (λ a. numbered (a .answer) ≢ 0 → (a .answer .exchange ≡ x) × (a .room ≡ room)) (λ r n. (refl, refl)) (λ p e n. absurd (n refl));
+  replying = λ x p f d room.
+      by-replying x p f d room (λ a. numbered (a .answer) ≢ 0 → (a .answer .exchange ≡ x) × (a .room ≡ room)) (λ r n. (refl, refl)) (λ a b n. absurd (n refl));
+  releasing-own = λ x p.
+      chosen (λ (a : Requested). numbered a ≢ 0 → a .exchange ≡ x) (ownHasVerdict (ownPlace x p)) _ _ (λ e n. absurd (n refl)) (λ e n. refl);
+  releasing-incoming = λ x p.
+      chosen (λ (a : Requested). numbered a ≢ 0 → a .exchange ≡ x) (notReady (incomingPlace x p)) _ _ (λ e n. refl) (λ e n. absurd (n refl));
+}
+
+-- ---- a primary that is accepted
+
+-- the header has what was asked for
+as-asked : (c : Terms) (q : Primary) (number : ℕ) → AsAsked c q number (primaryHeader c q number)
+as-asked c q number = record { r = refl; device = refl; w = refl; stream = refl; function = refl; system = refl; number = refl; e = refl }
+
+-- a free place that is claimed
+claimed : (o : Own) (h : List ℕ) → o .stage ≡ own.Free → ownClaimed o h ≡ record { header = h; stage = own.Sending }
+claimed o h e = rw e
+
+opened :
+    (c : Terms) (x : Exchange) (q : Primary) (d room : List ℕ) → Fours x → (p : ℕ) → LowestAt (OwnFree x) p
+    → Opened c x q d room p (openBy (At p) c x q d room .answer .exchange) (openBy (At p) c x q d room .room)
+unfolding claimedAt
+opened c x q d room four p w = record {
+  lowest = w;
+  header = primaryHeader c q (numberGiven x);
+  as-asked = as-asked c q (numberGiven x);
+  place = place;
+  sending = refl;
+  outgoing = λ range. ap (λ (o : Own). outgoing.Message (ownPrimary o) (length d)) place ∙ ap (λ (h : Header). outgoing.Message h (length d)) (header-and-back _ range);
+  last = refl;
+  kept = refl;
+  others = λ k n. getD-set-other (x .own) p k _ freshOwn n;
+  incoming = refl;
+  saved = refl;
+  latest = refl;
+}
+  where
+    bytes : List ℕ
+    bytes = headerBytes (primaryHeader c q (numberGiven x))
+
+    place : ownPlace (openBy (At p) c x q d room .answer .exchange) p ≡ record { header = headerBytes (primaryHeader c q (numberGiven x)); stage = own.Sending }
+    place = getD-set-same (x .own) p (ownClaimed (ownPlace x p) bytes) freshOwn (omega (arith, w .within, four .own)) ∙ claimed (ownPlace x p) bytes (w .so)
+
+pub accepted-opens : AcceptedOpens
+unfolding refused refusedBy
+accepted-opens c x q d room four p =
+    by-opening c x q d room (λ a. a .answer .asked ≡ Taken p → Opened c x q d room p (a .answer .exchange) (a .room))
+    (λ r e. absurd (false≢true (ap isTaken e)))
+    (λ k s e.
+    subst (λ (j : ℕ). Opened c x q d room j (openBy (At k) c x q d room .answer .exchange) (openBy (At k) c x q d room .room)) (ap takenAt e)
+    (opened c x q d room four k (lowest-free x four k .0 s)))
+
+-- ---- a reply that is accepted
+
+-- its header
+replies-to : (h : Header) (f : ℕ) → RepliesTo h f (replyTo h f)
+replies-to h f = record { r = refl; device = refl; w = refl; stream = refl; function = refl; system = refl; number = refl; e = refl }
+
+-- a message that is complete, and what an accepted reply makes of it
+record Complete (i : Incoming) : Type 0 where
+  pub size : ℕ
+  pub was : i .stage ≡ incoming.Complete size
+  pub becomes : incomingAnswered i ≡ record { header = i .header; stage = incoming.Replying size }
+
+complete-at : (s : IncomingStage) (i : Incoming) → i .stage ≡ s → not (completeAt s) && not (repliedAt s) ≡ false → repliedAt s ≡ false → Complete i
+complete-at incoming.Free i e t n = absurd (true≢false t)
+complete-at (incoming.Open timer next k) i e t n = absurd (true≢false t)
+complete-at (incoming.Complete k) i e t n = record { size = k; was = e; becomes = rw e }
+complete-at (incoming.Replying k) i e t n = absurd (true≢false t)
+complete-at (incoming.Replied k f) i e t n = absurd (true≢false n)
+
+-- a place that is not what stands for one outside is in the table
+in-table : {A : Type 0} (l : List A) (p : ℕ) (d : A) → (getD l p d ≡ d → ⊥) → p < length l
+in-table l p d used =
+    either (ltb p (length l)) (λ t. p < length l) (λ e. ltb-true _ _ e)
+    (λ e. absurd (used (List·getD-eq-default l d {n = p} (ltb-false _ _ e))))
+
+reply-there :
+    (x : Exchange) (p f : ℕ) (d room : List ℕ) → Complete (incomingPlace x p)
+    → Replied x p f d room p (replyAccepted x p f d room .answer .exchange) (replyAccepted x p f d room .room)
+unfolding replyAccepted withSending putIncoming
+reply-there x p f d room k = record {
+  same = refl;
+  size = k .size;
+  was = k .was;
+  place = place;
+  sending = refl;
+  header = replyTo (incomingPrimary (incomingPlace x p)) f;
+  replies-to = replies-to (incomingPrimary (incomingPlace x p)) f;
+  outgoing = ap (λ (i : Incoming). outgoing.Message (replyTo (incomingPrimary i) f) (length d)) place;
+  kept = refl;
+  others = λ j n. getD-set-other (x .incoming) p j _ freshIncoming n;
+  own = refl;
+  saved = refl;
+  numbers = refl;
+}
+  where
+    used : incomingPlace x p ≡ freshIncoming → ⊥
+    used e = true≢false (ap completeAt (sym (k .was)) ∙ ap (λ (i : Incoming). completeAt (i .stage)) e)
+
+    place : incomingPlace (replyAccepted x p f d room .answer .exchange) p ≡ record { header = incomingPlace x p .header; stage = incoming.Replying (k .size) }
+    place = getD-set-same (x .incoming) p (incomingAnswered (incomingPlace x p)) freshIncoming (in-table (x .incoming) p freshIncoming used) ∙ k .becomes
+
+pub accepted-replies : AcceptedReplies
+unfolding refused refusedBy replyAccepted notReady
+accepted-replies x p f d room k =
+    by-replying x p f d room (λ a. a .answer .asked ≡ Taken k → Replied x p f d room k (a .answer .exchange) (a .room))
+    (λ r e. absurd (false≢true (ap isTaken e)))
+    (λ ready new e.
+    subst (λ (j : ℕ). Replied x p f d room j (replyAccepted x p f d room .answer .exchange) (replyAccepted x p f d room .room)) (ap takenAt e)
+    (reply-there x p f d room (complete-at (incomingPlace x p .stage) (incomingPlace x p) refl ready new)))
+
+-- ---- a release that is accepted
+
+own-freed : (s : OwnStage) (o : Own) → givenBy (standingAt s) ≡ true → ownReleasedAt s o .stage ≡ own.Free
+own-freed own.Free o t = absurd (false≢true t)
+own-freed own.Sending o t = absurd (false≢true t)
+own-freed (own.Awaiting timer) o t = absurd (false≢true t)
+own-freed (own.Replying timer next r) o t = absurd (false≢true t)
+own-freed (own.Done v r) o t = refl
+
+incoming-freed : (s : IncomingStage) (i : Incoming) → not (completeAt s) && not (repliedAt s) ≡ false → incomingReleasedAt s i .stage ≡ incoming.Free
+incoming-freed incoming.Free i t = absurd (true≢false t)
+incoming-freed (incoming.Open timer next n) i t = absurd (true≢false t)
+incoming-freed (incoming.Complete n) i t = refl
+incoming-freed (incoming.Replying n) i t = absurd (true≢false t)
+incoming-freed (incoming.Replied n e) i t = refl
+
+-- no verdict is got by a release
+same-latest : (latest : ℕ) (o q : Own) → ownHasVerdict o ≡ true → latestAfter latest o q ≡ latest
+unfolding latestAfter gotVerdict
+same-latest latest o q t = rw t
+
+own-released : (x : Exchange) (p : ℕ) → ownHasVerdict (ownPlace x p) ≡ true → OwnReleased x p p (putOwn x p (ownReleased (ownPlace x p)))
+unfolding putOwn
+own-released x p t = record {
+  same = refl;
+  place = ap (λ (o : Own). o .stage) there ∙ own-freed (ownPlace x p .stage) (ownPlace x p) t;
+  others = λ j n. getD-set-other (x .own) p j _ freshOwn n;
+  incoming = refl;
+  saved = refl;
+  numbers = λ k. record { last = x .numbers .last; latest = same-latest (x .numbers .latest) (ownPlace x p) (ownReleased (ownPlace x p)) t k };
+  sending = refl;
+}
+  where
+    used : ownPlace x p ≡ freshOwn → ⊥
+    used e = false≢true (sym (ap ownHasVerdict e) ∙ t)
+
+    there : getD (set (x .own) p (ownReleased (ownPlace x p))) p freshOwn ≡ ownReleased (ownPlace x p)
+    there = getD-set-same (x .own) p _ freshOwn (in-table (x .own) p freshOwn used)
+
+incoming-released : (x : Exchange) (p : ℕ) → notReady (incomingPlace x p) ≡ false → IncomingReleased x p p (putIncoming x p (incomingReleased (incomingPlace x p)))
+unfolding putIncoming notReady
+incoming-released x p t = record {
+  same = refl;
+  place = ap (λ (i : Incoming). i .stage) there ∙ incoming-freed (incomingPlace x p .stage) (incomingPlace x p) t;
+  others = λ j n. getD-set-other (x .incoming) p j _ freshIncoming n;
+  own = refl;
+  saved = refl;
+  numbers = refl;
+  sending = refl;
+}
+  where
+    used : incomingPlace x p ≡ freshIncoming → ⊥
+    used e = true≢false (sym (ap notReady e) ∙ t)
+
+    there : getD (set (x .incoming) p (incomingReleased (incomingPlace x p))) p freshIncoming ≡ incomingReleased (incomingPlace x p)
+    there = getD-set-same (x .incoming) p _ freshIncoming (in-table (x .incoming) p freshIncoming used)
+
+pub accepted-releases : AcceptedReleases
+unfolding releaseOwn releaseIncoming refusedBy
+accepted-releases = record {
+  own = λ x p k.
+      chosen (λ (a : Requested). a .asked ≡ Taken k → OwnReleased x p k (a .exchange)) (ownHasVerdict (ownPlace x p)) _ _
+      (λ t e. subst (λ (j : ℕ). OwnReleased x p j (putOwn x p (ownReleased (ownPlace x p)))) (ap takenAt e) (own-released x p t))
+      (λ t e. absurd (false≢true (ap isTaken e)));
+  incoming = λ x p k.
+      chosen (λ (a : Requested). a .asked ≡ Taken k → IncomingReleased x p k (a .exchange)) (notReady (incomingPlace x p)) _ _
+      (λ t e. absurd (false≢true (ap isTaken e)))
+      (λ t e. subst (λ (j : ℕ). IncomingReleased x p j (putIncoming x p (incomingReleased (incomingPlace x p)))) (ap takenAt e) (incoming-released x p t));
+}

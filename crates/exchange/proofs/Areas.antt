@@ -1,0 +1,300 @@
+-- After any calls each area begins with the data of the kept blocks joined. Assumes nothing.
+use Prim.Native.Nat.{ℕ, _+_, _≤_, _<_}
+use mathlib.Core.Path.{_≡_, refl, sym, ap, _∙_, subst}
+use mathlib.Core.Bool.{Bool, true, false, not, false≢true}
+use mathlib.Core.List.{List, [], _∷_}
+use mathlib.Core.Logic.{_⊎_, inl, inr}
+use native.Mathlib.Omega.{arith}
+use lib.ListN.{length, length-map, getD-replicate}
+use Rattle.wire.proofs.Choice.{chosen}
+use Rattle.header.specs.Header.{headerOf, headerBytes}
+use Rattle.header.specs.declared.header.Header.{Header}
+use Rattle.settings.specs.declared.terms.Terms.{Terms}
+use Rattle.room.specs.Room.{keptIn}
+use Rattle.room.specs.declared.Message.the-variants as message
+use Rattle.place.specs.Fate.{fateOf}
+use Rattle.place.specs.Own.{freshOwn, keptAt, ownHasVerdict, ownTick, ownClaimed}
+use Rattle.place.specs.Incoming.{freshIncoming, primaryOf, lengthAt, freeAt, openAt, incomingIsReplied, incomingTick, begins, begunBy, incomingBegun, incomingAnswered}
+use Rattle.place.proofs.Messages.{by-fate}
+use Rattle.place.specs.declared.fate.Fate.{Fate}
+use Rattle.place.specs.declared.incoming.End.the-variants as end
+use Rattle.place.specs.declared.incoming.IncomingStage.{IncomingStage}
+use Rattle.place.specs.declared.incoming.IncomingStage.the-variants as arrival
+use Rattle.place.specs.declared.own.OwnStage.{OwnStage}
+use Rattle.place.specs.declared.own.OwnStage.the-variants as stage
+use Rattle.place.specs.declared.own.Own.{Own}
+use Rattle.place.specs.declared.incoming.Incoming.{Incoming}
+use Rattle.table.specs.Own.{freeOwn}
+use Rattle.table.specs.Incoming.{openAlike, freeIncoming}
+use Rattle.table.specs.Number.{nextNumber}
+use Rattle.table.proofs.Finding.{reply-lowest, message-lowest, open-alike-lowest, free-incoming-lowest, free-own-lowest}
+use Rattle.table.specs.declared.find.Found.the-variants.{At}
+use Rattle.exchange.specs.Exchange.{ownPlace, incomingPlace, putOwn, putIncoming, withSending, savedNow}
+use Rattle.exchange.specs.Tick.{tickOf}
+use Rattle.exchange.specs.Send.{endedOwn, endedReply, sentBy, failedBy}
+use Rattle.exchange.specs.Judge.{Judging, thrown, spoiltBy, replyBlock, messageBlock, beginsAt, judgeOf}
+use Rattle.exchange.specs.Request.{Asking, badPrimary, badFunction, dataLong, isSending, notReady, refusedBy, refused, primaryHeader, claimedAt, openBy, openFree, openOf, replyAccepted, replyReady, replyOf, releaseOwn, releaseIncoming}
+use Rattle.exchange.specs.History.{Call, block, tick, acknowledged, failed, primary, reply, free-own, free-incoming, Joined, anew, ofNew, joins, ifKept, opens, replies, Track, next, track, atStart}
+use Rattle.exchange.specs.Theorems.{Reached, StartsWith, hasReply, lengthSent, sends, JoinedInAreas}
+use Rattle.exchange.proofs.Cases.{by-found, Thrown, stray, no-place, too-long, empty, Takes, by-judge}
+use Rattle.exchange.proofs.Tables.{map-every}
+use Rattle.exchange.proofs.Filling.{Fills, spares-same, spares-kept, fills-first, fits-area}
+use Rattle.exchange.proofs.Holding.{OwnHolds, IncomingHolds, SendHolds, own-ticked, own-sent, own-failed, own-released, own-claimed, incoming-ticked, incoming-answered, incoming-ended, incoming-released}
+use Rattle.exchange.proofs.Joining.{Good, own-any, incoming-any, saved-good, put-own, put-sending, own-only, incoming-only, incoming-kept, offered-replied, offered-kept, reply-joined, message-joined, anew-here, anew-else}
+use Rattle.exchange.specs.declared.note.Note.{Note}
+use Rattle.exchange.specs.declared.exchange.Sending.{Sending}
+use Rattle.exchange.specs.declared.exchange.Sending.the-variants as sending
+use Rattle.exchange.specs.declared.exchange.Exchange.{Exchange}
+use Rattle.exchange.specs.declared.request.Primary.{Primary}
+use Rattle.exchange.specs.declared.request.Requested.{Requested}
+
+-- ---- a block
+
+-- a primary that begins in a free place, or instead of an open message
+begun-holds : (room : List ℕ) (p : ℕ) → length room ≡ 36864 → p < 4 → (h d : List ℕ) (i : Incoming) → spoiltBy (fateOf (headerOf h) 0 (length d)) ≡ false
+    → IncomingHolds (keptIn room (message.Incoming p) 0 d) p (begunBy i h (headerOf h .number) (fateOf (headerOf h) 0 (length d)) .stage) d
+begun-holds room p w k h d i =
+    let z : 0 + length d ≡ length d = omega arith in
+    by-fate (headerOf h) 0 (length d)
+    (λ (f : Fate). spoiltBy f ≡ false → IncomingHolds (keptIn room (message.Incoming p) 0 d) p (begunBy i h (headerOf h .number) f .stage) d)
+    (λ l e. absurd (false≢true (sym e)))
+    (λ l m e. absurd (false≢true (sym e)))
+    (λ l m fits e. subst (λ n. Fills (keptIn room (message.Incoming p) 0 d) (message.Incoming p) n d) (sym z) (fills-first room (message.Incoming p) d w k (omega arith)))
+    (λ l m fits some e. subst (λ n. Fills (keptIn room (message.Incoming p) 0 d) (message.Incoming p) n d) (sym z) (fills-first room (message.Incoming p) d w k (omega arith)))
+
+-- where a primary begins, no message is complete
+pub begun-at : (h d : List ℕ) (q : List ℕ) (s : IncomingStage) (P : Incoming → Type 0) → (freeAt s ≡ true) ⊎ (openAt s ≡ true)
+    → P (begunBy (record { header = q; stage = s }) h (headerOf h .number) (fateOf (headerOf h) 0 (length d)))
+    → P (incomingBegun (record { header = q; stage = s }) h (length d))
+unfolding begins
+begun-at h d q arrival.Free P e w = w
+begun-at h d q (arrival.Open timer next n) P e w = w
+begun-at h d q (arrival.Complete n) P (inl e) w = absurd (false≢true e)
+begun-at h d q (arrival.Complete n) P (inr e) w = absurd (false≢true e)
+begun-at h d q (arrival.Replying n) P (inl e) w = absurd (false≢true e)
+begun-at h d q (arrival.Replying n) P (inr e) w = absurd (false≢true e)
+begun-at h d q (arrival.Replied n z) P (inl e) w = absurd (false≢true e)
+begun-at h d q (arrival.Replied n z) P (inr e) w = absurd (false≢true e)
+
+-- the place that a new primary takes
+pub taken-place : (x : Exchange) (b : Header) (p : ℕ) (gone : Bool) → length (x .incoming) ≡ 4 → Takes x b p gone
+    → (p < 4) × ((freeAt (incomingPlace x p .stage) ≡ true) ⊎ (openAt (incomingPlace x p .stage) ≡ true))
+taken-place x b p true four e = let w = open-alike-lowest (x .incoming) b four .at p .0 e in (w .0, inr (w .1 .0))
+taken-place x b p false four (e, f) = let w = free-incoming-lowest (x .incoming) four .at p .0 f in (w .0, inl (w .1))
+
+-- its data is joined there
+new-joined : (x : Exchange) (b : Header) (p : ℕ) (gone : Bool) (s : Joined) (d : List ℕ) → Takes x b p gone
+    → ofNew (openAlike (x .incoming) b) (freeIncoming (x .incoming)) s d ≡ record { replies = s .replies; messages = anew (s .messages) p d; outgoing = s .outgoing }
+new-joined x b p true s d e = rw e
+new-joined x b p false s d (e, f) = rw (e, f)
+
+module _ (c : Terms) (x : Exchange) (h d room : List ℕ) (s : Joined) (g : Good x room s) where
+  -- what judging leaves is good
+  abbrev After : Judging → Type 0
+  After j = Good (j .answer .exchange) (j .room) (ifKept (j .answer .note) s (joins x h s d))
+
+  outcast : (n : Note) → Thrown n → After (thrown (savedNow x h) n room)
+  unfolding thrown
+  outcast _ stray = saved-good x h room s g
+  outcast _ no-place = saved-good x h room s g
+  outcast _ too-long = saved-good x h room s g
+  outcast _ empty = saved-good x h room s g
+
+  pub judge-joined : After (judgeOf c x h d room)
+  unfolding thrown replyBlock messageBlock beginsAt savedNow
+  judge-joined =
+      let y = savedNow x h in
+      let gy = saved-good x h room s g in
+      let b = headerOf h in
+      by-judge c x h d room After (λ e. g) (λ e u. g)
+      (λ p q r.
+      let w = reply-lowest (x .own) b (g .own-four) .at p .0 r in
+      rw (r, offered-replied (ownPlace x p) b (length d) (w .1)) (reply-joined y room s gy p (w .0) b d (w .1)))
+      (λ p q r m.
+      let w = message-lowest (x .incoming) b (g .incoming-four) .at p .0 m in
+      rw (r, m, offered-kept (incomingPlace x p) b (length d) (w .1)) (message-joined y room s gy p (w .0) b d (w .1)))
+      (λ p gone f q r m o e u t.
+      let w = taken-place x b p gone (g .incoming-four) t in
+      rw (r, m, new-joined x b p gone s d t)
+      (begun-at h d (incomingPlace x p .header) (incomingPlace x p .stage)
+      (λ i. Good (putIncoming y p i) (keptIn room (message.Incoming p) 0 d) (record { replies = s .replies; messages = anew (s .messages) p d; outgoing = s .outgoing }))
+      (w .1)
+      (incoming-kept y room s gy p 0 d d _ (begun-holds room p (g .whole) (w .0) h d (incomingPlace x p) (ap spoiltBy e ∙ u)))))
+      outcast
+
+-- ---- time, and the end of a send
+
+module _ (x : Exchange) (room : List ℕ) (s : Joined) (g : Good x room s) where
+  tick-joined : (c : Terms) → Good (tickOf c x .exchange) room s
+  unfolding tickOf
+  tick-joined c =
+      record {
+        whole = g .whole;
+        own-four = length-map (x .own) (ownTick c) ∙ g .own-four;
+        incoming-four = length-map (x .incoming) (incomingTick c) ∙ g .incoming-four;
+        own = λ p k.
+            map-every (λ p (o : Own). OwnHolds room p (o .stage) (s .replies p)) (ownTick c) (x .own) freshOwn refl
+            (λ p o w. own-ticked room p (s .replies p) c (o .header) (o .stage) w) p (g .own p k);
+        incoming = λ p k.
+            map-every (λ p (i : Incoming). IncomingHolds room p (i .stage) (s .messages p)) (incomingTick c) (x .incoming) freshIncoming refl
+            (λ p i w. incoming-ticked room p (s .messages p) c (i .header) (i .stage) w) p (g .incoming p k);
+        sends = g .sends;
+      }
+
+  -- nothing is being sent
+  idle : (y : Exchange) → Good y room s → Good (withSending y sending.Nothing) room s
+  idle y w = put-sending y room room s sending.Nothing (s .outgoing) w (spares-same room message.Send (g .whole)) tt
+
+  sent-joined : (q : Sending) → Good (sentBy q x .exchange) room s
+  unfolding endedOwn endedReply
+  sent-joined sending.Nothing = g
+  sent-joined (sending.Primary p n) = let o = ownPlace x p in idle _ (own-only x room s g p _ (own-sent room p (s .replies p) (o .header) (o .stage) (own-any x room s g p)))
+  sent-joined (sending.Reply p f n) = let i = incomingPlace x p in idle _ (incoming-only x room s g p _ (incoming-ended room p (s .messages p) end.Sent (i .header) (i .stage) (incoming-any x room s g p)))
+
+  failed-joined : (q : Sending) → Good (failedBy q x .exchange) room s
+  unfolding endedOwn endedReply
+  failed-joined sending.Nothing = g
+  failed-joined (sending.Primary p n) = let o = ownPlace x p in idle _ (own-only x room s g p _ (own-failed room p (s .replies p) (o .header) (o .stage) (own-any x room s g p)))
+  failed-joined (sending.Reply p f n) = let i = incomingPlace x p in idle _ (incoming-only x room s g p _ (incoming-ended room p (s .messages p) end.Failed (i .header) (i .stage) (incoming-any x room s g p)))
+
+  -- ---- releases
+
+  own-freed : (p : ℕ) → Good (releaseOwn x p .exchange) room s
+  unfolding releaseOwn refusedBy
+  own-freed p =
+      let o = ownPlace x p in
+      chosen (λ (a : Requested). Good (a .exchange) room s) (ownHasVerdict o) _ _
+      (λ e. own-only x room s g p _ (own-released room p (s .replies p) (o .header) (o .stage) (own-any x room s g p))) (λ e. g)
+
+  incoming-freed : (p : ℕ) → Good (releaseIncoming x p .exchange) room s
+  unfolding releaseIncoming refusedBy
+  incoming-freed p =
+      let i = incomingPlace x p in
+      chosen (λ (a : Requested). Good (a .exchange) room s) (notReady i) _ _ (λ e. g)
+      (λ e. incoming-only x room s g p _ (incoming-released room p (s .messages p) (i .header) (i .stage) (incoming-any x room s g p)))
+
+  -- ---- requests
+
+  -- what a request for a primary, and one for a reply, leaves is good
+  abbrev Opened : List ℕ → Asking → Type 0
+  Opened d a = Good (a .answer .exchange) (a .room) (opens (a .answer .asked) s d)
+
+  abbrev Answered : List ℕ → Asking → Type 0
+  Answered d a = Good (a .answer .exchange) (a .room) (replies (a .answer .asked) s d)
+
+  module _ (d : List ℕ) (fits : length d ≤ 4096) where
+    -- the message to be sent lies in the send area
+    to-send : (y : Exchange) (t : Joined) → Good y room t → (q : Sending) → ((after : List ℕ) → Fills after message.Send (length d) d → SendHolds after q d)
+        → Good (withSending y q) (keptIn room message.Send 0 d) (record { replies = t .replies; messages = t .messages; outgoing = d })
+    to-send y t w q here =
+        put-sending y room (keptIn room message.Send 0 d) t q d w (spares-kept room message.Send 0 d (g .whole))
+        (here (keptIn room message.Send 0 d) (fills-first room message.Send d (g .whole) (omega arith) fits))
+
+    -- a primary takes a free place
+    claimed : (c : Terms) (q : Primary) (p : ℕ) → freeOwn (x .own) ≡ At p
+        → Good (claimedAt c x p q (length d)) (keptIn room message.Send 0 d) (record { replies = anew (s .replies) p []; messages = s .messages; outgoing = d })
+    unfolding claimedAt putOwn withSending
+    claimed c q p e =
+        let w = free-own-lowest (x .own) (g .own-four) .at p .0 e in
+        let o = ownPlace x p in
+        let new = ownClaimed o (headerBytes (primaryHeader c q (nextNumber (x .own) (x .numbers .last) (x .numbers .latest)))) in
+        let empty = subst (OwnHolds room p (new .stage)) (sym (anew-here (s .replies) p [])) (own-claimed room p (o .header) (o .stage) (headerBytes (primaryHeader c q (nextNumber (x .own) (x .numbers .last) (x .numbers .latest)))) (w .1)) in
+        let put = put-own x room room s p new (anew (s .replies) p []) g (spares-same room (message.Reply p) (g .whole)) (anew-else (s .replies) p []) empty in
+        let all = to-send (putOwn x p new) (record { replies = anew (s .replies) p []; messages = s .messages; outgoing = s .outgoing }) put (sending.Primary p (length d)) (λ after f. f) in
+        record { whole = all .whole; own-four = all .own-four; incoming-four = all .incoming-four; own = all .own; incoming = all .incoming; sends = all .sends }
+
+    opened : (c : Terms) (q : Primary) → Opened d (openFree c x q d room)
+    unfolding openFree refused refusedBy
+    opened c q =
+        by-found (freeOwn (x .own)) (λ f. Opened d (openBy f c x q d room))
+        (λ p e. claimed c q p e) (λ e. g)
+
+    answered : (p f : ℕ) → Answered d (replyAccepted x p f d room)
+    unfolding replyAccepted
+    answered p f =
+        let i = incomingPlace x p in
+        to-send (putIncoming x p (incomingAnswered i)) s (incoming-only x room s g p _ (incoming-answered room p (s .messages p) (i .header) (i .stage) (incoming-any x room s g p))) (sending.Reply p f (length d)) (λ after w. w)
+
+  primary-joined : (c : Terms) (q : Primary) (d : List ℕ) → Opened d (openOf c x q d room)
+  unfolding openOf refused refusedBy
+  primary-joined c q d =
+      chosen (Opened d) (badPrimary q) _ _ (λ e. g)
+      (λ e. chosen (Opened d) (dataLong (length d)) _ _ (λ l. g)
+      (λ l. chosen (Opened d) (isSending x) _ _ (λ u. g) (λ u. opened d (fits-area d l) c q)))
+
+  reply-asked : (p f : ℕ) (d : List ℕ) → Answered d (replyOf x p f d room)
+  unfolding replyOf replyReady refused refusedBy
+  reply-asked p f d =
+      let i = incomingPlace x p in
+      chosen (Answered d) (notReady i) _ _ (λ e. g)
+      (λ e. chosen (Answered d) (not (primaryOf i .w)) _ _ (λ e. g)
+      (λ e. chosen (Answered d) (incomingIsReplied i) _ _ (λ e. g)
+      (λ e. chosen (Answered d) (badFunction (primaryOf i) f) _ _ (λ e. g)
+      (λ e. chosen (Answered d) (dataLong (length d)) _ _ (λ l. g)
+      (λ l. chosen (Answered d) (isSending x) _ _ (λ u. g) (λ u. answered d (fits-area d l) p f))))))
+
+-- ---- any calls
+
+abbrev pub GoodTrack : Track → Type 0
+GoodTrack t = Good (t .exchange) (t .room) (t .seen)
+
+-- one call more
+pub one-call : (c : Terms) (t : Track) (k : Call) → GoodTrack t → GoodTrack (next c t k)
+one-call c t (block h d) g = judge-joined c (t .exchange) h d (t .room) (t .seen) g
+one-call c t tick g = tick-joined (t .exchange) (t .room) (t .seen) g c
+one-call c t acknowledged g = sent-joined (t .exchange) (t .room) (t .seen) g (t .exchange .sending)
+one-call c t failed g = failed-joined (t .exchange) (t .room) (t .seen) g (t .exchange .sending)
+one-call c t (primary q d) g = primary-joined (t .exchange) (t .room) (t .seen) g c q d
+one-call c t (reply p f d) g = reply-asked (t .exchange) (t .room) (t .seen) g p f d
+one-call c t (free-own p) g = own-freed (t .exchange) (t .room) (t .seen) g p
+one-call c t (free-incoming p) g = incoming-freed (t .exchange) (t .room) (t .seen) g p
+
+all-calls : (c : Terms) (t : Track) (ks : List Call) → GoodTrack t → GoodTrack (track c t ks)
+unfolding track
+all-calls c t [] g = g
+all-calls c t (k ∷ ks) g = all-calls c (next c t k) ks (one-call c t k g)
+
+pub fresh-good : (last : ℕ) (room : List ℕ) → length room ≡ 36864 → GoodTrack (atStart last room)
+fresh-good last room w =
+    record {
+      whole = w;
+      own-four = refl;
+      incoming-four = refl;
+      own = λ p k. rw (getD-replicate 4 p freshOwn freshOwn k) tt;
+      incoming = λ p k. rw (getD-replicate 4 p freshIncoming freshIncoming k) tt;
+      sends = tt;
+    }
+
+pub always : (c : Terms) (t : Track) → Reached c t → GoodTrack t
+always c t w = subst GoodTrack (w .so) (all-calls c (atStart (w .last) (w .room)) (w .calls) (fresh-good (w .last) (w .room) (w .whole)))
+
+-- ---- what is read of it
+
+reply-begins : (room : List ℕ) (p : ℕ) (o : OwnStage) (bs : List ℕ) → OwnHolds room p o bs → hasReply o ≡ true → StartsWith room (message.Reply p) (keptAt o .length) bs
+reply-begins room p stage.Free bs h e = absurd (false≢true e)
+reply-begins room p stage.Sending bs h e = absurd (false≢true e)
+reply-begins room p (stage.Awaiting timer) bs h e = absurd (false≢true e)
+reply-begins room p (stage.Replying timer next r) bs h e = h .begins
+reply-begins room p (stage.Done v r) bs h e = h e .begins
+
+message-begins : (room : List ℕ) (p : ℕ) (i : IncomingStage) (bs : List ℕ) → IncomingHolds room p i bs → freeAt i ≡ false → StartsWith room (message.Incoming p) (lengthAt i) bs
+message-begins room p arrival.Free bs h e = absurd (false≢true (sym e))
+message-begins room p (arrival.Open timer next n) bs h e = h .begins
+message-begins room p (arrival.Complete n) bs h e = h .begins
+message-begins room p (arrival.Replying n) bs h e = h .begins
+message-begins room p (arrival.Replied n z) bs h e = h .begins
+
+send-begins : (room : List ℕ) (q : Sending) (bs : List ℕ) → SendHolds room q bs → sends q ≡ true → StartsWith room message.Send (lengthSent q) bs
+send-begins room sending.Nothing bs h e = absurd (false≢true e)
+send-begins room (sending.Primary p n) bs h e = h .begins
+send-begins room (sending.Reply p f n) bs h e = h .begins
+
+pub joined-in-areas : JoinedInAreas
+joined-in-areas c t w =
+    let g = always c t w in
+    let x = t .exchange in
+    record {
+      reply = λ p k e. reply-begins (t .room) p (ownPlace x p .stage) (t .seen .replies p) (g .own p k) e;
+      incoming = λ p k e. message-begins (t .room) p (incomingPlace x p .stage) (t .seen .messages p) (g .incoming p k) e;
+      outgoing = λ e. send-begins (t .room) (x .sending) (t .seen .outgoing) (g .sends) e;
+    }

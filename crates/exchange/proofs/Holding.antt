@@ -1,0 +1,176 @@
+-- What the area of a place holds at each stage, and what the events of a place leave of it. Assumes nothing.
+use Prim.Native.Nat.{ℕ, _<_}
+use mathlib.Core.Path.{_≡_, refl, sym, subst}
+use mathlib.Core.Bool.{true, false, false≢true}
+use mathlib.Core.List.{List, []}
+use native.Mathlib.Omega.{arith}
+use lib.ListN.{length}
+use Rattle.wire.proofs.Choice.{chosen}
+use Rattle.header.specs.declared.header.Header.{Header}
+use Rattle.settings.specs.declared.terms.Terms.{Terms}
+use Rattle.settings.proofs.Timers.{by-timer}
+use Rattle.room.specs.declared.Message.{Message}
+use Rattle.room.specs.declared.Message.the-variants as message
+use Rattle.place.specs.Own.{ended, primaryOf, keptAt, standingAt, freeBy, awaitedBy, replyingBy, ownTick, awaitTick, replyTick, acknowledged, ownSent, ownFailed, ownClaimed, ownTakes, ownReleased}
+use Rattle.place.specs.Incoming.{lengthAt, incomingTick, openTick, openBy, endedAt, incomingAnswered, incomingReleased, incomingTakes}
+use Rattle.place.specs.declared.own.OwnStage.{OwnStage}
+use Rattle.place.specs.declared.own.OwnStage.the-variants as stage
+use Rattle.place.specs.declared.own.Own.{Own}
+use Rattle.place.specs.declared.incoming.End.{End}
+use Rattle.place.specs.declared.incoming.IncomingStage.{IncomingStage}
+use Rattle.place.specs.declared.incoming.IncomingStage.the-variants as arrival
+use Rattle.place.specs.declared.incoming.Incoming.{Incoming}
+use Rattle.exchange.specs.Theorems.{byVerdict}
+use Rattle.exchange.proofs.Filling.{Fills, Spares, fills-none}
+use Rattle.exchange.specs.declared.exchange.Sending.{Sending}
+use Rattle.exchange.specs.declared.exchange.Sending.the-variants as sending
+
+-- ---- what is held at each stage
+
+-- at each stage of own place p, with the data bs joined
+abbrev pub OwnHolds : List ℕ → ℕ → OwnStage → List ℕ → Type 0
+OwnHolds room p stage.Free bs = Unit {0}
+OwnHolds room p stage.Sending bs = bs ≡ []
+OwnHolds room p (stage.Awaiting timer) bs = bs ≡ []
+OwnHolds room p (stage.Replying timer next r) bs = Fills room (message.Reply p) (r .length) bs
+OwnHolds room p (stage.Done v r) bs = byVerdict v ≡ true → Fills room (message.Reply p) (r .length) bs
+
+-- at each stage of incoming place p
+abbrev pub IncomingHolds : List ℕ → ℕ → IncomingStage → List ℕ → Type 0
+IncomingHolds room p arrival.Free bs = Unit {0}
+IncomingHolds room p (arrival.Open timer next n) bs = Fills room (message.Incoming p) n bs
+IncomingHolds room p (arrival.Complete n) bs = Fills room (message.Incoming p) n bs
+IncomingHolds room p (arrival.Replying n) bs = Fills room (message.Incoming p) n bs
+IncomingHolds room p (arrival.Replied n e) bs = Fills room (message.Incoming p) n bs
+
+-- of the message being sent
+abbrev pub SendHolds : List ℕ → Sending → List ℕ → Type 0
+SendHolds room sending.Nothing bs = Unit {0}
+SendHolds room (sending.Primary p n) bs = Fills room message.Send n bs
+SendHolds room (sending.Reply p f n) bs = Fills room message.Send n bs
+
+-- ---- a write elsewhere
+
+module _ (room after : List ℕ) (m : Message) (s : Spares room after m) where
+  pub own-spared : (p : ℕ) → p < 4 → (m ≡ message.Reply p → ⊥) → (o : OwnStage) (bs : List ℕ) → OwnHolds room p o bs → OwnHolds after p o bs
+  own-spared p k ne stage.Free bs h = tt
+  own-spared p k ne stage.Sending bs h = h
+  own-spared p k ne (stage.Awaiting timer) bs h = h
+  own-spared p k ne (stage.Replying timer next r) bs h = s .others (message.Reply p) (r .length) bs ne k h
+  own-spared p k ne (stage.Done v r) bs h = λ e. s .others (message.Reply p) (r .length) bs ne k (h e)
+
+  pub incoming-spared : (p : ℕ) → p < 4 → (m ≡ message.Incoming p → ⊥) → (i : IncomingStage) (bs : List ℕ) → IncomingHolds room p i bs → IncomingHolds after p i bs
+  incoming-spared p k ne arrival.Free bs h = tt
+  incoming-spared p k ne (arrival.Open timer next n) bs h = s .others (message.Incoming p) n bs ne k h
+  incoming-spared p k ne (arrival.Complete n) bs h = s .others (message.Incoming p) n bs ne k h
+  incoming-spared p k ne (arrival.Replying n) bs h = s .others (message.Incoming p) n bs ne k h
+  incoming-spared p k ne (arrival.Replied n e) bs h = s .others (message.Incoming p) n bs ne k h
+
+  pub send-spared : (m ≡ message.Send → ⊥) → (q : Sending) (bs : List ℕ) → SendHolds room q bs → SendHolds after q bs
+  send-spared ne sending.Nothing bs h = tt
+  send-spared ne (sending.Primary p n) bs h = s .others message.Send n bs ne (omega arith) h
+  send-spared ne (sending.Reply p f n) bs h = s .others message.Send n bs ne (omega arith) h
+
+-- ---- events at an own place
+
+-- a place from its parts
+abbrev mk : List ℕ → OwnStage → Own
+mk h s = record { header = h; stage = s }
+
+module _ (room : List ℕ) (p : ℕ) (bs : List ℕ) where
+  pub own-ticked : (c : Terms) (h : List ℕ) (s : OwnStage) → OwnHolds room p s bs → OwnHolds room p (ownTick c (mk h s) .stage) bs
+  unfolding awaitTick replyTick ended
+  own-ticked c h stage.Free w = tt
+  own-ticked c h stage.Sending w = w
+  own-ticked c h (stage.Awaiting timer) w =
+      by-timer (c .t3) timer (λ t. OwnHolds room p (awaitedBy (mk h (stage.Awaiting timer)) t .stage) bs) (λ _. λ e. absurd (false≢true e)) (λ _. w)
+  own-ticked c h (stage.Replying timer next r) w =
+      by-timer (c .t4) timer (λ t. OwnHolds room p (replyingBy (mk h (stage.Replying timer next r)) next r t .stage) bs) (λ _. λ e. absurd (false≢true e)) (λ _. w)
+  own-ticked c h (stage.Done v r) w = w
+
+  pub own-sent : (h : List ℕ) (s : OwnStage) → OwnHolds room p s bs → OwnHolds room p (ownSent (mk h s) .stage) bs
+  unfolding acknowledged ended
+  own-sent h stage.Free w = tt
+  own-sent h stage.Sending w =
+      chosen (λ (o : Own). OwnHolds room p (o .stage) bs) (primaryOf (mk h stage.Sending) .w) _ _ (λ _. w) (λ _. λ e. absurd (false≢true e))
+  own-sent h (stage.Awaiting timer) w = w
+  own-sent h (stage.Replying timer next r) w = w
+  own-sent h (stage.Done v r) w = w
+
+  pub own-failed : (h : List ℕ) (s : OwnStage) → OwnHolds room p s bs → OwnHolds room p (ownFailed (mk h s) .stage) bs
+  unfolding ended
+  own-failed h stage.Free w = tt
+  own-failed h stage.Sending w = λ e. absurd (false≢true e)
+  own-failed h (stage.Awaiting timer) w = w
+  own-failed h (stage.Replying timer next r) w = w
+  own-failed h (stage.Done v r) w = w
+
+  pub own-released : (h : List ℕ) (s : OwnStage) → OwnHolds room p s bs → OwnHolds room p (ownReleased (mk h s) .stage) bs
+  own-released h stage.Free w = tt
+  own-released h stage.Sending w = w
+  own-released h (stage.Awaiting timer) w = w
+  own-released h (stage.Replying timer next r) w = w
+  own-released h (stage.Done v r) w = tt
+
+  -- what a place that takes a block has of its reply
+  pub own-has : (w : length room ≡ 36864) → p < 4 → (b : Header) (h : List ℕ) (s : OwnStage) → ownTakes (mk h s) b ≡ true → OwnHolds room p s bs
+      → Fills room (message.Reply p) (keptAt s .length) bs
+  own-has w k b h stage.Free t g = absurd (false≢true t)
+  own-has w k b h stage.Sending t g = absurd (false≢true t)
+  own-has w k b h (stage.Awaiting timer) t g = subst (λ l. Fills room (message.Reply p) 0 l) (sym g) (fills-none room (message.Reply p) w k)
+  own-has w k b h (stage.Replying timer next r) t g = g
+  own-has w k b h (stage.Done v r) t g = absurd (false≢true t)
+
+-- a free place takes a primary
+pub own-claimed : (room : List ℕ) (p : ℕ) (h : List ℕ) (s : OwnStage) (new : List ℕ) → freeBy (standingAt s) ≡ true → OwnHolds room p (ownClaimed (mk h s) new .stage) []
+own-claimed room p h stage.Free new e = refl
+own-claimed room p h stage.Sending new e = absurd (false≢true e)
+own-claimed room p h (stage.Awaiting timer) new e = absurd (false≢true e)
+own-claimed room p h (stage.Replying timer next r) new e = absurd (false≢true e)
+own-claimed room p h (stage.Done v r) new e = absurd (false≢true e)
+
+-- ---- events at an incoming place
+
+-- a place from its parts
+abbrev mkIn : List ℕ → IncomingStage → Incoming
+mkIn h s = record { header = h; stage = s }
+
+module _ (room : List ℕ) (p : ℕ) (bs : List ℕ) where
+  pub incoming-ticked : (c : Terms) (h : List ℕ) (s : IncomingStage) → IncomingHolds room p s bs → IncomingHolds room p (incomingTick c (mkIn h s) .stage) bs
+  unfolding openTick
+  incoming-ticked c h arrival.Free w = tt
+  incoming-ticked c h (arrival.Open timer next n) w =
+      by-timer (c .t4) timer (λ t. IncomingHolds room p (openBy (mkIn h (arrival.Open timer next n)) next n t .stage) bs) (λ _. tt) (λ _. w)
+  incoming-ticked c h (arrival.Complete n) w = w
+  incoming-ticked c h (arrival.Replying n) w = w
+  incoming-ticked c h (arrival.Replied n e) w = w
+
+  pub incoming-answered : (h : List ℕ) (s : IncomingStage) → IncomingHolds room p s bs → IncomingHolds room p (incomingAnswered (mkIn h s) .stage) bs
+  incoming-answered h arrival.Free w = tt
+  incoming-answered h (arrival.Open timer next n) w = w
+  incoming-answered h (arrival.Complete n) w = w
+  incoming-answered h (arrival.Replying n) w = w
+  incoming-answered h (arrival.Replied n e) w = w
+
+  pub incoming-ended : (z : End) (h : List ℕ) (s : IncomingStage) → IncomingHolds room p s bs → IncomingHolds room p (endedAt z s (mkIn h s) .stage) bs
+  incoming-ended z h arrival.Free w = tt
+  incoming-ended z h (arrival.Open timer next n) w = w
+  incoming-ended z h (arrival.Complete n) w = w
+  incoming-ended z h (arrival.Replying n) w = w
+  incoming-ended z h (arrival.Replied n e) w = w
+
+  pub incoming-released : (h : List ℕ) (s : IncomingStage) → IncomingHolds room p s bs → IncomingHolds room p (incomingReleased (mkIn h s) .stage) bs
+  incoming-released h arrival.Free w = tt
+  incoming-released h (arrival.Open timer next n) w = w
+  incoming-released h (arrival.Complete n) w = tt
+  incoming-released h (arrival.Replying n) w = w
+  incoming-released h (arrival.Replied n e) w = tt
+
+  -- what a place that takes a block has of its message
+  pub incoming-has : (b : Header) (h : List ℕ) (s : IncomingStage) → incomingTakes (mkIn h s) b ≡ true → IncomingHolds room p s bs
+      → Fills room (message.Incoming p) (lengthAt s) bs
+  incoming-has b h arrival.Free t g = absurd (false≢true t)
+  incoming-has b h (arrival.Open timer next n) t g = g
+  incoming-has b h (arrival.Complete n) t g = absurd (false≢true t)
+  incoming-has b h (arrival.Replying n) t g = absurd (false≢true t)
+  incoming-has b h (arrival.Replied n e) t g = absurd (false≢true t)

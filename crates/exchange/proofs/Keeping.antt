@@ -1,0 +1,229 @@
+-- What a block does to the place of its message, by rules 4, 5 and 7 (`specs/Rules.antt`). Assumes nothing.
+use Prim.Native.Nat.{ℕ, zero, suc, _+_, _<_}
+use mathlib.Core.Path.{_≡_, refl, sym, ap, subst, _∙_}
+use mathlib.Core.Bool.{Bool, true, false, cond, false≢true}
+use mathlib.Core.List.{List}
+use mathlib.Core.Logic.{⊎-elim}
+use native.Mathlib.Omega.{arith}
+use lib.ListN.{length}
+use Rattle.wire.proofs.Choice.{chosen}
+use Rattle.header.specs.Header.{headerOf}
+use Rattle.header.specs.declared.header.Header.{Header}
+use Rattle.place.specs.Message.{LacksData}
+use Rattle.place.specs.Fate.{beginsPrimary, fateOf}
+use Rattle.place.specs.Own.{ended, ownKept, ownHasVerdict, ownTakes, repliedBy, replied, ownOffered}
+use Rattle.place.specs.Incoming.{incomingLength, incomingTakes, keptBy, goesOn, incomingOffered}
+use Rattle.place.proofs.Messages.{by-fate}
+use Rattle.place.specs.declared.own.Own.{Own}
+use Rattle.place.specs.declared.incoming.Incoming.{Incoming}
+use Rattle.table.specs.Own.{replyFor}
+use Rattle.table.specs.Incoming.{messageFor}
+use Rattle.table.specs.declared.find.Found.{Found}
+use Rattle.table.specs.declared.find.Found.the-variants.{At, Nowhere}
+use Rattle.exchange.specs.Flags.{noMarks, markAt, noFlags, verdictFlag, incomingFlags}
+use Rattle.exchange.specs.Exchange.{ownPlace, incomingPlace, gotVerdict, savedNow}
+use Rattle.exchange.specs.Judge.{thrown, repliedAs, replyBlock, continuedAs, messageBlock, primaryBy, primaryBlock, orPrimary, ofMessage, noReplyBlock, ofReply, newBlock, judgeOf}
+use Rattle.exchange.specs.Rules.{OfReply, first, further, replyBytes, messageBytes, bytesBefore, BytesBefore, Untouched, Spoils, ReplyGoes, ReplyBlock, MessageGoes, MessageBlock, NoPlaceTaken}
+use Rattle.exchange.specs.declared.exchange.Exchange.{Exchange}
+use Rattle.exchange.proofs.Judging as test
+use Rattle.exchange.proofs.Leaving.{passes}
+
+-- ---- what is kept before a block
+
+pub bytes-before : BytesBefore
+bytes-before x b four = record {
+  reply = λ p w. ap (λ (f : Found). replyBytes f (x .own) (x .incoming) b) (test.lowest-reply x four b p w);
+  message = λ none p w.
+      ap (λ (f : Found). replyBytes f (x .own) (x .incoming) b) (test.no-reply x four b none)
+      ∙ ap (λ (f : Found). messageBytes f (x .incoming)) (test.lowest-message x four b p w);
+  none = λ none no-message.
+      ap (λ (f : Found). replyBytes f (x .own) (x .incoming) b) (test.no-reply x four b none)
+      ∙ ap (λ (f : Found). messageBytes f (x .incoming)) (test.no-message x four b no-message);
+}
+
+-- ---- flags
+
+-- a place that is not marked
+no-mark : (p : ℕ) → markAt p false ≡ noMarks
+no-mark zero = refl
+no-mark (suc zero) = refl
+no-mark (suc (suc zero)) = refl
+no-mark (suc (suc (suc zero))) = refl
+no-mark (suc (suc (suc (suc p)))) = refl
+
+no-verdict-flag : (p : ℕ) → verdictFlag p false ≡ noFlags
+no-verdict-flag p = λ k. record { verdicts = no-mark p k; completed = noMarks; dropped = noMarks }
+
+no-incoming-flag : (p : ℕ) → incomingFlags p false false ≡ noFlags
+no-incoming-flag p = λ k. record { verdicts = noMarks; completed = no-mark p k; dropped = no-mark p k }
+
+-- a block that is kept spoils nothing
+unspoilt : (b : Header) (have : ℕ) (d : List ℕ) → (LacksData b (length d) → ⊥) → (4096 < have + length d → ⊥) → Spoils b have d → ⊥
+unspoilt b have d has fits s = ⊎-elim has fits s
+
+-- what is chosen where the test holds
+held : {A : Type 0} (t : Bool) (a b : A) → t ≡ true → cond t a b ≡ a
+held t a b e = rw e
+
+-- ---- the reply in an own place
+
+-- it has no verdict yet
+undecided : (o : Own) (b : Header) → OfReply o b → ownHasVerdict o ≡ false
+undecided o b (first timer e s even n) = rw e
+undecided o b (further timer next r e k) = rw e
+
+-- its verdict, if it gets one, is told
+flagged : (p : ℕ) (o q : Own) (given : Bool) → ownHasVerdict o ≡ false → ownHasVerdict q ≡ given → verdictFlag p (gotVerdict o q) ≡ verdictFlag p given
+unfolding gotVerdict
+flagged p o q given v e = rw (v, e)
+
+reply-goes :
+    (x : Exchange) (h d room : List ℕ) (p : ℕ) → ownHasVerdict (ownPlace x p) ≡ false
+    → ReplyGoes x h d room p (ownKept (ownPlace x p) .length)
+    (repliedAs (savedNow x h) p (ownPlace x p) (repliedBy (ownPlace x p) (headerOf h) (fateOf (headerOf h) (ownKept (ownPlace x p) .length) (length d)))
+    (fateOf (headerOf h) (ownKept (ownPlace x p) .length) (length d)) d room)
+unfolding ended
+reply-goes x h d room p v =
+    by-fate (headerOf h) (ownKept (ownPlace x p) .length) (length d)
+    (λ f. ReplyGoes x h d room p (ownKept (ownPlace x p) .length) (repliedAs (savedNow x h) p (ownPlace x p) (repliedBy (ownPlace x p) (headerOf h) f) f d room))
+    (λ lacks.
+    record {
+      broken = λ s. record { state = refl; flags = flagged p _ _ true v refl; bytes = refl };
+      complete = λ w e. absurd (w .has-data lacks);
+      more = λ w e. absurd (w .has-data lacks);
+    })
+    (λ has long.
+    record {
+      broken = λ s. record { state = refl; flags = flagged p _ _ true v refl; bytes = refl };
+      complete = λ w e. absurd (omega (arith, w .fits));
+      more = λ w e. absurd (omega (arith, w .fits));
+    })
+    (λ has ends fits.
+    record {
+      broken = λ s. absurd (unspoilt (headerOf h) _ d has (λ l. omega arith) s);
+      complete = λ w e. record { state = refl; flags = flagged p _ _ true v refl; bytes = refl };
+      more = λ w e. absurd (false≢true (sym e ∙ ends));
+    })
+    (λ has ends fits some.
+    record {
+      broken = λ s. absurd (unspoilt (headerOf h) _ d has (λ l. omega arith) s);
+      complete = λ w e. absurd (false≢true (sym ends ∙ e));
+      more = λ w e. record { state = refl; flags = flagged p _ _ false v refl ∙ no-verdict-flag p; bytes = refl };
+    })
+
+pub reply-block : ReplyBlock
+unfolding newBlock replyBlock ownOffered replied savedNow
+reply-block c x h d room four new p w =
+    subst (ReplyGoes x h d room p (bytesBefore x b)) (sym judges)
+    (subst (λ (n : ℕ). ReplyGoes x h d room p n (repliedAs (savedNow x h) p o (repliedBy o b (fateOf b have (length d))) (fateOf b have (length d)) d room)) (sym before)
+    (reply-goes x h d room p (undecided o b (w .so))))
+  where
+    b : Header
+    b = headerOf h
+
+    o : Own
+    o = ownPlace x p
+
+    have : ℕ
+    have = ownKept o .length
+
+    found : replyFor (x .own) b ≡ At p
+    found = test.lowest-reply x four b p w
+
+    before : bytesBefore x b ≡ have
+    before = bytes-before x b four .reply p w
+
+    judges : judgeOf c x h d room ≡ repliedAs (savedNow x h) p o (repliedBy o b (fateOf b have (length d))) (fateOf b have (length d)) d room
+    judges =
+        passes c x h d room new
+        ∙ ap (λ (f : Found). ofReply f (savedNow x h) h d room) found
+        ∙ ap (λ (q : Own). repliedAs (savedNow x h) p o q (fateOf b have (length d)) d room) (held (ownTakes o b) _ o (test.reply-says o b .1 (w .so)))
+
+-- ---- the message in an incoming place
+
+message-goes :
+    (x : Exchange) (h d room : List ℕ) (p : ℕ)
+    → MessageGoes x h d room p (incomingLength (incomingPlace x p))
+    (continuedAs (savedNow x h) p (incomingPlace x p)
+    (keptBy (incomingPlace x p) (headerOf h .number) (fateOf (headerOf h) (incomingLength (incomingPlace x p)) (length d)))
+    (fateOf (headerOf h) (incomingLength (incomingPlace x p)) (length d)) d room)
+message-goes x h d room p =
+    by-fate (headerOf h) (incomingLength (incomingPlace x p)) (length d)
+    (λ f. MessageGoes x h d room p (incomingLength (incomingPlace x p)) (continuedAs (savedNow x h) p (incomingPlace x p) (keptBy (incomingPlace x p) (headerOf h .number) f) f d room))
+    (λ lacks.
+    record {
+      broken = λ s. record { state = refl; flags = refl; bytes = refl };
+      complete = λ w e. absurd (w .has-data lacks);
+      more = λ w e. absurd (w .has-data lacks);
+    })
+    (λ has long.
+    record {
+      broken = λ s. record { state = refl; flags = refl; bytes = refl };
+      complete = λ w e. absurd (omega (arith, w .fits));
+      more = λ w e. absurd (omega (arith, w .fits));
+    })
+    (λ has ends fits.
+    record {
+      broken = λ s. absurd (unspoilt (headerOf h) _ d has (λ l. omega arith) s);
+      complete = λ w e. record { state = refl; flags = refl; bytes = refl };
+      more = λ w e. absurd (false≢true (sym e ∙ ends));
+    })
+    (λ has ends fits some.
+    record {
+      broken = λ s. absurd (unspoilt (headerOf h) _ d has (λ l. omega arith) s);
+      complete = λ w e. absurd (false≢true (sym ends ∙ e));
+      more = λ w e. record { state = refl; flags = no-incoming-flag p; bytes = refl };
+    })
+
+pub message-block : MessageBlock
+unfolding newBlock noReplyBlock messageBlock incomingOffered goesOn savedNow
+message-block c x h d room four new none p w =
+    subst (MessageGoes x h d room p (bytesBefore x b)) (sym judges)
+    (subst (λ (n : ℕ). MessageGoes x h d room p n (continuedAs (savedNow x h) p i (keptBy i (b .number) (fateOf b have (length d))) (fateOf b have (length d)) d room)) (sym before)
+    (message-goes x h d room p))
+  where
+    b : Header
+    b = headerOf h
+
+    i : Incoming
+    i = incomingPlace x p
+
+    have : ℕ
+    have = incomingLength i
+
+    no-reply : replyFor (x .own) b ≡ Nowhere
+    no-reply = test.no-reply x four b none
+
+    found : messageFor (x .incoming) b ≡ At p
+    found = test.lowest-message x four b p w
+
+    before : bytesBefore x b ≡ have
+    before = bytes-before x b four .message none p w
+
+    judges : judgeOf c x h d room ≡ continuedAs (savedNow x h) p i (keptBy i (b .number) (fateOf b have (length d))) (fateOf b have (length d)) d room
+    judges =
+        passes c x h d room new
+        ∙ ap (λ (f : Found). ofReply f (savedNow x h) h d room) no-reply
+        ∙ ap (λ (f : Found). ofMessage f (savedNow x h) h d room) found
+        ∙ ap (λ (q : Incoming). continuedAs (savedNow x h) p i q (fateOf b have (length d)) d room) (held (incomingTakes i b) _ i (test.message-says i b .1 (w .so)))
+
+-- ---- a primary that is not open
+
+pub no-place-taken : NoPlaceTaken
+unfolding newBlock noReplyBlock orPrimary primaryBlock thrown savedNow
+no-place-taken c x h d room four new none no-message s =
+    subst (Untouched (savedNow x h) room) (sym judges)
+    (chosen (Untouched (savedNow x h) room) (beginsPrimary (headerOf h)) (primaryBlock (savedNow x h) h d room) _
+    (λ e.
+    by-fate (headerOf h) 0 (length d) (λ f. Untouched (savedNow x h) room (primaryBy f (savedNow x h) h d room))
+    (λ l. record { state = refl; flags = refl; bytes = refl })
+    (λ a l. record { state = refl; flags = refl; bytes = refl })
+    (λ has ends fits. absurd (unspoilt (headerOf h) 0 d has (λ l. omega arith) s))
+    (λ has ends fits some. absurd (unspoilt (headerOf h) 0 d has (λ l. omega arith) s)))
+    (λ e. record { state = refl; flags = refl; bytes = refl }))
+  where
+    judges : judgeOf c x h d room ≡ orPrimary (savedNow x h) h d room
+    judges =
+        passes c x h d room new
+        ∙ ap (λ (f : Found). ofReply f (savedNow x h) h d room) (test.no-reply x four (headerOf h) none)
+        ∙ ap (λ (f : Found). ofMessage f (savedNow x h) h d room) (test.no-message x four (headerOf h) no-message)

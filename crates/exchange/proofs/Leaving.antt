@@ -1,0 +1,209 @@
+-- What judging leaves, and the place of a new primary (`specs/Rules.antt`). Assumes nothing.
+use Prim.Native.Nat.{ℕ, _≤_}
+use mathlib.Core.Path.{_≡_, refl, sym, ap, _∙_}
+use mathlib.Core.Bool.{Bool, true, false, cond, not, _||_, false≢true}
+use mathlib.Core.List.{List}
+use mathlib.Core.Logic.{_↔_, _⊎_, inl, inr, ⊎-elim, _≢_}
+use native.Mathlib.Nat.{zero-add}
+use native.Mathlib.Omega.{arith}
+use lib.ListN.{length}
+use Rattle.header.specs.Header.{headerOf}
+use Rattle.settings.specs.declared.terms.Terms.{Terms}
+use Rattle.room.specs.Room.{keptIn}
+use Rattle.room.specs.declared.Message.{Message}
+use Rattle.room.specs.declared.Message.the-variants as message
+use Rattle.place.specs.Message.{LacksData}
+use Rattle.place.specs.Fate.{fateOf}
+use Rattle.place.specs.Own.{ownKept}
+use Rattle.place.specs.Incoming.{incomingLength, freeAt, openAt, begunBy, begins, begunAt}
+use Rattle.place.proofs.Messages.{by-fate}
+use Rattle.place.specs.declared.fate.Fate.{Fate}
+use Rattle.place.specs.declared.fate.Fate.the-variants as fate
+use Rattle.place.specs.declared.incoming.IncomingStage.{IncomingStage}
+use Rattle.place.specs.declared.incoming.IncomingStage.the-variants as incoming
+use Rattle.place.specs.declared.incoming.Incoming.{Incoming}
+use Rattle.table.specs.Incoming.{freeIncoming, openAlike}
+use Rattle.table.specs.declared.find.Found.{Found}
+use Rattle.exchange.specs.Note.{noteBy, noteNumber}
+use Rattle.exchange.specs.Flags.{incomingFlags}
+use Rattle.exchange.specs.Exchange.{ownPlace, incomingPlace, putOwn, putIncoming, savedNow}
+use Rattle.exchange.specs.Judge.{Judging, judging, thrown, isMisrouted, isDuplicate, keepBy, replyBlock, messageBlock, beginsAt, inFree, inPlace, takesPlace, primaryBy, primaryBlock, orPrimary, ofMessage, noReplyBlock, ofReply, newBlock, judgeOf}
+use Rattle.exchange.specs.Rules.{Fours, AlikeHere, FreeHere, New, noted, Leaves, JudgeLeaves, NewPrimary, begunWith, begunIn, PlaceTaken}
+use Rattle.exchange.specs.declared.note.Note.{Note}
+use Rattle.exchange.specs.declared.note.Note.the-variants.{Kept, Misrouted, Duplicate, Stray, NoPlace, TooLong, Empty}
+use Rattle.exchange.specs.declared.exchange.Exchange.{Exchange}
+use Rattle.exchange.proofs.Tests.{fails}
+use Rattle.exchange.proofs.Finding.{found}
+use Rattle.exchange.proofs.Cases.{Thrown, stray, no-place, too-long, empty, by-judge}
+use Rattle.exchange.proofs.Judging as test
+use Rattle.exchange.proofs.Notes.{placeNote, takes-note}
+
+-- ---- what is left
+
+-- a block that is kept or breaks its message has none of the notes between
+no-rule : (f : Fate) (n : ℕ) → 22 ≤ n → n ≤ 25 → noteNumber (noteBy f) ≡ n → ⊥
+no-rule fate.Empty n a b e = omega arith
+no-rule fate.TooLong n a b e = omega arith
+no-rule (fate.Last m) n a b e = omega arith
+no-rule (fate.More m) n a b e = omega arith
+
+-- nor has one that is thrown out once its header is saved a note of rule 1 or 2
+late : (n : Note) → Thrown n → 24 ≤ noteNumber n
+late Stray stray = omega arith
+late NoPlace no-place = omega arith
+late TooLong too-long = omega arith
+late Empty empty = omega arith
+
+-- no byte of a block that breaks its message is kept
+not-kept : (f : Fate) (room : List ℕ) (m : Message) (have : ℕ) (d : List ℕ) → noteNumber (noteBy f) ≢ 21 → keepBy f room m have d ≡ room
+not-kept fate.Empty room m have d n = refl
+not-kept fate.TooLong room m have d n = refl
+not-kept (fate.Last k) room m have d n = absurd (n refl)
+not-kept (fate.More k) room m have d n = absurd (n refl)
+
+module _ (x : Exchange) (h d room : List ℕ) where
+  -- by a block of a message that has its place, or gets one
+  by-block :
+      (j : Judging) (f : Fate) (m : Message) (have : ℕ) → noted j ≡ noteNumber (noteBy f)
+      → j .answer .exchange .saved ≡ record { any = true; header = h } → j .answer .exchange .numbers .last ≡ x .numbers .last
+      → j .answer .exchange .sending ≡ x .sending → j .room ≡ keepBy f room m have d → Leaves x h room j
+  by-block j f m have note saved last sending kept = record {
+    misrouted = λ e. absurd (no-rule f 22 (omega arith) (omega arith) (sym note ∙ e));
+    duplicate = λ e. absurd (no-rule f 23 (omega arith) (omega arith) (sym note ∙ e));
+    saves = λ a b. saved;
+    stray = λ e. absurd (no-rule f 24 (omega arith) (omega arith) (sym note ∙ e));
+    no-place = λ e. absurd (no-rule f 25 (omega arith) (omega arith) (sym note ∙ e));
+    thrown-out = λ n. kept ∙ not-kept f room m have d (λ e. n (note ∙ e));
+    last = last;
+    sending = sending;
+  }
+
+  by-misrouted : Leaves x h room (thrown x Misrouted room)
+  unfolding thrown
+  by-misrouted = record {
+    misrouted = λ e. record { state = refl; flags = refl; bytes = refl };
+    duplicate = λ e. absurd (omega arith);
+    saves = λ a b. absurd (a refl);
+    stray = λ e. absurd (omega arith);
+    no-place = λ e. absurd (omega arith);
+    thrown-out = λ n. refl;
+    last = refl;
+    sending = refl;
+  }
+
+  by-duplicate : Leaves x h room (thrown x Duplicate room)
+  unfolding thrown
+  by-duplicate = record {
+    misrouted = λ e. absurd (omega arith);
+    duplicate = λ e. record { state = refl; flags = refl; bytes = refl };
+    saves = λ a b. absurd (b refl);
+    stray = λ e. absurd (omega arith);
+    no-place = λ e. absurd (omega arith);
+    thrown-out = λ n. refl;
+    last = refl;
+    sending = refl;
+  }
+
+  by-thrown : (n : Note) → Thrown n → Leaves x h room (thrown (savedNow x h) n room)
+  unfolding thrown savedNow
+  by-thrown n t = record {
+    misrouted = λ e. let z : noteNumber n ≡ 22 = e in absurd (omega (arith, late n t));
+    duplicate = λ e. let z : noteNumber n ≡ 23 = e in absurd (omega (arith, late n t));
+    saves = λ a b. refl;
+    stray = λ e. record { state = refl; flags = refl; bytes = refl };
+    no-place = λ e. record { state = refl; flags = refl; bytes = refl };
+    thrown-out = λ m. refl;
+    last = refl;
+    sending = refl;
+  }
+
+pub judge-leaves : JudgeLeaves
+unfolding replyBlock messageBlock beginsAt putOwn putIncoming savedNow
+judge-leaves c x h d room =
+    by-judge c x h d room (Leaves x h room) (λ q. by-misrouted x h d room) (λ q u. by-duplicate x h d room)
+    (λ p q r.
+    by-block x h d room _ (fateOf (headerOf h) (ownKept (ownPlace x p) .length) (length d)) (message.Reply p) (ownKept (ownPlace x p) .length)
+    refl refl refl refl refl)
+    (λ p q r m.
+    by-block x h d room _ (fateOf (headerOf h) (incomingLength (incomingPlace x p)) (length d)) (message.Incoming p) (incomingLength (incomingPlace x p))
+    refl refl refl refl refl)
+    (λ p gone f q r m o e s t. by-block x h d room _ (fate.Last 0) (message.Incoming p) 0 refl refl refl refl refl)
+    (by-thrown x h d room)
+
+-- ---- the place of a new primary
+
+-- neither misrouted nor a duplicate
+third : (r u : Bool) (j k m : Judging) → r ≡ true → u ≡ false → cond (not r) j (cond u k m) ≡ m
+third r u j k m a b = rw (a, b)
+
+-- a block that passed 1 and 2 is judged by the others
+pub passes : (c : Terms) (x : Exchange) (h d room : List ℕ) → New c x h → judgeOf c x h d room ≡ newBlock (savedNow x h) h d room
+unfolding judgeOf isMisrouted
+passes c x h d room new =
+    third (test.isRouted c (headerOf h)) (isDuplicate c x h) _ _ _
+    (test.routed c (headerOf h) .1 (new .routed)) (fails _ _ (test.duplicate c x h) (new .no-duplicate))
+
+-- it is judged by rule 6
+by-rule-6 : (c : Terms) (x : Exchange) (h d room : List ℕ) → Fours x → NewPrimary c x h d → judgeOf c x h d room ≡ takesPlace (savedNow x h) h (headerOf h .e) d room
+unfolding newBlock noReplyBlock orPrimary primaryBlock savedNow
+by-rule-6 c x h d room four new =
+    passes c x h d room (new .new)
+    ∙ ap (λ (f : Found). ofReply f (savedNow x h) h d room) (test.no-reply x four (headerOf h) (new .no-reply))
+    ∙ ap (λ (f : Found). ofMessage f (savedNow x h) h d room) (test.no-message x four (headerOf h) (new .no-message))
+    ∙ ap (λ (t : Bool). cond t (primaryBlock (savedNow x h) h d room) (thrown (savedNow x h) Stray room)) (test.begins (headerOf h) .1 (new .begins))
+    ∙ by-fate (headerOf h) 0 (length d) (λ f. primaryBy f (savedNow x h) h d room ≡ takesPlace (savedNow x h) h (headerOf h .e) d room)
+    (λ l. absurd (new .has-data l)) (λ a l. absurd (omega (arith, new .fits))) (λ a e l. rw e) (λ a e l s. rw e)
+
+-- what the place is then
+begun-by : (i : Incoming) (h : List ℕ) (n : ℕ) → (LacksData (headerOf h) n → ⊥) → n ≤ 4096 → begins i h n ≡ begunWith h n
+unfolding begins
+begun-by i h n has fits =
+    by-fate (headerOf h) 0 n (λ f. begunBy i h (headerOf h .number) f ≡ begunWith h n)
+    (λ l. absurd (has l)) (λ a l. absurd (omega arith)) (λ a e l. rw (e, zero-add n)) (λ a e l s. rw (e, zero-add n))
+
+begun-there :
+    (s : IncomingStage) (i : Incoming) (h : List ℕ) (n : ℕ) → (openAt s || freeAt s ≡ true)
+    → (LacksData (headerOf h) n → ⊥) → n ≤ 4096 → begunAt s i h n ≡ begunWith h n
+begun-there incoming.Free i h n t has fits = begun-by i h n has fits
+begun-there (incoming.Open timer next m) i h n t has fits = begun-by i h n has fits
+begun-there (incoming.Complete m) i h n t has fits = absurd (false≢true t)
+begun-there (incoming.Replying m) i h n t has fits = absurd (false≢true t)
+begun-there (incoming.Replied m e) i h n t has fits = absurd (false≢true t)
+
+-- all that is left
+begins-there :
+    (c : Terms) (x : Exchange) (h d room : List ℕ) (p : ℕ) (gone : Bool) → NewPrimary c x h d → (openAt (incomingPlace x p .stage) || freeAt (incomingPlace x p .stage) ≡ true)
+    → beginsAt (savedNow x h) p h gone (headerOf h .e) d room ≡ begunIn x p h gone d room
+unfolding beginsAt savedNow
+begins-there c x h d room p gone new t =
+    ap (λ (i : Incoming). judging (record { exchange = putIncoming (savedNow x h) p i; note = Kept; flags = incomingFlags p (headerOf h .e) gone }) (keptIn room (message.Incoming p) 0 d))
+    (begun-there (incomingPlace x p .stage) (incomingPlace x p) h (length d) t (new .has-data) (new .fits))
+
+-- note 25 where there is neither
+neither : (t : Bool) (A B : Type 0) → (t ≡ true ↔ (A ⊎ B)) → (placeNote t ≡ 25) ↔ ((A → ⊥) × (B → ⊥))
+neither true A B w = (λ e. absurd (omega arith), λ n. absurd (⊎-elim (n .0) (n .1) (w .0 refl)))
+neither false A B w = (λ e. (λ a. false≢true (w .1 (inl a)), λ b. false≢true (w .1 (inr b))), λ n. refl)
+
+pub place-taken : PlaceTaken
+unfolding takesPlace savedNow
+place-taken c x h d room four new = record {
+  alike = λ p w.
+      judges
+      ∙ ap (λ (f : Found). inPlace f (savedNow x h) h (headerOf h .e) d room) (test.lowest-alike x four (headerOf h) p w)
+      ∙ begins-there c x h d room p true new (rw (w .so .0));
+  free = λ none p w.
+      judges
+      ∙ ap (λ (f : Found). inPlace f (savedNow x h) h (headerOf h .e) d room) (test.no-alike x four (headerOf h) none)
+      ∙ ap (λ (f : Found). inFree f (savedNow x h) h (headerOf h .e) d room) (test.lowest-free x four (headerOf h) p w)
+      ∙ begins-there c x h d room p false new (rw (w .so));
+  all-in-use = (λ e. in-use .0 (sym note ∙ e), λ w. note ∙ in-use .1 w);
+}
+  where
+    judges : judgeOf c x h d room ≡ takesPlace (savedNow x h) h (headerOf h .e) d room
+    judges = by-rule-6 c x h d room four new
+
+    note : noted (judgeOf c x h d room) ≡ placeNote (found (openAlike (x .incoming) (headerOf h)) || found (freeIncoming (x .incoming)))
+    note = ap noted judges ∙ takes-note (savedNow x h) h d room (headerOf h .e)
+
+    in-use : (placeNote (found (openAlike (x .incoming) (headerOf h)) || found (freeIncoming (x .incoming))) ≡ 25) ↔ ((AlikeHere x (headerOf h) → ⊥) × (FreeHere x → ⊥))
+    in-use = neither _ _ _ (test.takes-one x four (headerOf h))

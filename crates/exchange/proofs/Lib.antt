@@ -1,0 +1,32 @@
+-- `Alike`, `Tests`, `Finding`, `Judging`: the tests of the rules, and what each says. `Notes`, `Leaving`, `Keeping`: which note is answered,
+-- and what judging leaves. `Refusing`, `Accepting`: which requests are refused, and what the others leave. `Table`: 01's numbers.
+-- `Cases`: judging case by case; on it `Tables`, `Filling`, `Holding`, `Joining`, `Areas`: what the areas begin with after any calls;
+-- `Inside`: each place goes through events of a place; `Flagging`, `Telling`: what the flags tell. `Repeated`, `Judged`, `Blocks`,
+-- `Growing`, `Assembling`, `Answering`: the blocks of a cut message, judged in order, are the message. `Determined`: what each public
+-- contract determines.
+pub mod Alike
+pub mod Tests
+pub mod Finding
+pub mod Judging
+pub mod Notes
+pub mod Leaving
+pub mod Keeping
+pub mod Refusing
+pub mod Accepting
+pub mod Table
+pub mod Cases
+pub mod Tables
+pub mod Filling
+pub mod Holding
+pub mod Joining
+pub mod Areas
+pub mod Inside
+pub mod Flagging
+pub mod Telling
+pub mod Repeated
+pub mod Judged
+pub mod Blocks
+pub mod Growing
+pub mod Assembling
+pub mod Answering
+pub mod Determined

@@ -1,0 +1,12 @@
+-- `exchange::Exchange::with_sending` meets its contract. Assumes nothing.
+use mathlib.Core.Path.{refl}
+use Rattle.exchange.specs.Exchange.{withSending}
+use Rattle.exchange.proofs.exchange.Exchange.with_sending.Statement.{statement}
+use Rattle.exchange.proofs.exchange.Exchange.with_sending.Tie as tie
+
+pub with-sending-spec : {M : Type 1} → statement M
+unfolding withSending
+with-sending-spec =
+    tie.close
+    (tie.spec
+    (λ c. refl))

@@ -1,0 +1,60 @@
+-- The state of the transactions, and what changes one part of it.
+use Prim.Native.Nat.{ℕ}
+use mathlib.Core.Bool.{Bool, true, false, cond, not, _&&_}
+use mathlib.Core.List.{List}
+use lib.ListN.{replicate}
+use Rattle.place.specs.Own.{freshOwn, ownHasVerdict}
+use Rattle.place.specs.Incoming.{freshIncoming}
+use Rattle.place.specs.declared.own.Own.{Own}
+use Rattle.place.specs.declared.incoming.Incoming.{Incoming}
+use Rattle.table.specs.Own.{ownAt, withOwn}
+use Rattle.table.specs.Incoming.{incomingAt, withIncoming}
+use Rattle.table.specs.Number.{numberOf}
+use Rattle.exchange.specs.declared.exchange.Sending.{Sending}
+use Rattle.exchange.specs.declared.exchange.Sending.the-variants as sending
+use Rattle.exchange.specs.declared.exchange.Exchange.{Exchange}
+
+abbrev pub freshExchange : ℕ → Exchange
+freshExchange last = record {
+  own = replicate 4 freshOwn;
+  incoming = replicate 4 freshIncoming;
+  saved = record { any = false; header = replicate 10 0 };
+  numbers = record { last = last; latest = 0 };
+  sending = sending.Nothing;
+}
+
+abbrev pub ownPlace : Exchange → ℕ → Own
+ownPlace x p = ownAt (x .own) p
+
+abbrev pub incomingPlace : Exchange → ℕ → Incoming
+incomingPlace x p = incomingAt (x .incoming) p
+
+-- a place got its verdict now
+unfoldable pub gotVerdict : Own → Own → Bool
+gotVerdict before after = not (ownHasVerdict before) && ownHasVerdict after
+
+-- "that of the latest own transaction to get a verdict"
+unfoldable pub latestAfter : ℕ → Own → Own → ℕ
+latestAfter latest before after = cond (gotVerdict before after) (numberOf after) latest
+
+-- an own place is put anew
+unfoldable pub putOwn : Exchange → ℕ → Own → Exchange
+putOwn x p o = record {
+  own = withOwn (x .own) p o;
+  incoming = x .incoming;
+  saved = x .saved;
+  numbers = record { last = x .numbers .last; latest = latestAfter (x .numbers .latest) (ownPlace x p) o };
+  sending = x .sending;
+}
+
+-- an incoming place is put anew
+unfoldable pub putIncoming : Exchange → ℕ → Incoming → Exchange
+putIncoming x p i = record { own = x .own; incoming = withIncoming (x .incoming) p i; saved = x .saved; numbers = x .numbers; sending = x .sending }
+
+-- another message is being sent, or none
+unfoldable pub withSending : Exchange → Sending → Exchange
+withSending x s = record { own = x .own; incoming = x .incoming; saved = x .saved; numbers = x .numbers; sending = s }
+
+-- rule 2: "Otherwise the header is saved, even if the block is thrown out below."
+unfoldable pub savedNow : Exchange → List ℕ → Exchange
+savedNow x h = record { own = x .own; incoming = x .incoming; saved = record { any = true; header = h }; numbers = x .numbers; sending = x .sending }

@@ -1,0 +1,15 @@
+pub mod Note
+pub mod Flags
+pub mod Exchange
+pub mod Tick
+pub mod Send
+pub mod Judge
+pub mod Request
+pub mod Reading
+pub mod Range
+pub mod Rules
+pub mod Refusals
+pub mod Table
+pub mod History
+pub mod Theorems
+pub mod Assembly

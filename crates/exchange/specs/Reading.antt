@@ -1,0 +1,48 @@
+-- What a user reads of a place.
+use Prim.Native.Nat.{ℕ}
+use mathlib.Core.Bool.{cond, not}
+use Rattle.header.specs.declared.header.Header.{Header}
+use Rattle.place.specs.Own.{primaryOf as ownPrimary, ownStanding, ownIsFree, ownKept}
+use Rattle.place.specs.Incoming.{primaryOf as incomingPrimary, incomingLength, incomingIsFree, incomingIsOpen}
+use Rattle.place.specs.declared.incoming.End.{End}
+use Rattle.place.specs.declared.incoming.End.the-variants as end
+use Rattle.place.specs.declared.incoming.IncomingStage.{IncomingStage}
+use Rattle.place.specs.declared.incoming.IncomingStage.the-variants as stage
+use Rattle.place.specs.declared.incoming.Incoming.{Incoming}
+use Rattle.exchange.specs.Exchange.{ownPlace, incomingPlace}
+use Rattle.exchange.specs.declared.exchange.Exchange.{Exchange}
+use Rattle.exchange.specs.declared.reading.OwnReading.{OwnReading}
+use Rattle.exchange.specs.declared.reading.OwnReading.the-variants as own
+use Rattle.exchange.specs.declared.reading.ReplyStage.{ReplyStage}
+use Rattle.exchange.specs.declared.reading.ReplyStage.the-variants.{NotOwed, Owed, OnItsWay, Sent, Failed}
+use Rattle.exchange.specs.declared.reading.IncomingReading.{IncomingReading}
+use Rattle.exchange.specs.declared.reading.IncomingReading.the-variants as incoming
+
+-- nothing is read of a free place, or of one above 3
+unfoldable pub ownReading : Exchange → ℕ → OwnReading
+ownReading x p =
+    cond (ownIsFree (ownPlace x p)) own.NoPlace
+    (own.Place (ownPrimary (ownPlace x p)) (ownStanding (ownPlace x p)) (ownKept (ownPlace x p)))
+
+-- a reply is owed to a complete message with W = 1
+unfoldable pub wanted : Header → ReplyStage
+wanted h = cond (h .w) Owed NotOwed
+
+abbrev pub endedBy : End → ReplyStage
+endedBy end.Sent = Sent
+endedBy end.Failed = Failed
+
+abbrev pub replyStageAt : IncomingStage → Incoming → ReplyStage
+replyStageAt stage.Free i = NotOwed
+replyStageAt (stage.Open timer next n) i = NotOwed
+replyStageAt (stage.Complete n) i = wanted (incomingPrimary i)
+replyStageAt (stage.Replying n) i = OnItsWay
+replyStageAt (stage.Replied n e) i = endedBy e
+
+abbrev pub replyStage : Incoming → ReplyStage
+replyStage i = replyStageAt (i .stage) i
+
+unfoldable pub incomingReading : Exchange → ℕ → IncomingReading
+incomingReading x p =
+    cond (incomingIsFree (incomingPlace x p)) incoming.NoPlace
+    (incoming.Place (incomingPrimary (incomingPlace x p)) (incomingLength (incomingPlace x p)) (not (incomingIsOpen (incomingPlace x p))) (replyStage (incomingPlace x p)))

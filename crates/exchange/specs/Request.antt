@@ -1,0 +1,171 @@
+-- Requests: open a primary, reply, release (01, "Messages"; "Refusal numbers and notes").
+use Prim.Native.Nat.{ℕ, _+_, _*_, _%_}
+use mathlib.Core.Bool.{Bool, true, false, cond, not, _&&_, _||_}
+use mathlib.Core.List.{List}
+use lib.Dec.{eqb, ltb}
+use lib.ListN.{length}
+use Rattle.header.specs.Header.{headerBytes}
+use Rattle.header.specs.declared.header.Header.{Header}
+use Rattle.settings.specs.declared.terms.Terms.{Terms}
+use Rattle.room.specs.Room.{keptIn}
+use Rattle.room.specs.declared.Message.the-variants as message
+use Rattle.place.specs.Own.{ownClaimed, ownReleased, ownHasVerdict}
+use Rattle.place.specs.Incoming.{primaryOf, incomingIsComplete, incomingIsReplied, incomingAnswered, incomingReleased}
+use Rattle.place.specs.declared.incoming.Incoming.{Incoming}
+use Rattle.table.specs.Own.{freeOwn, withOwn}
+use Rattle.table.specs.Number.{nextNumber}
+use Rattle.table.specs.declared.find.Found.{Found}
+use Rattle.table.specs.declared.find.Found.the-variants.{At, Nowhere}
+use Rattle.exchange.specs.Exchange.{ownPlace, incomingPlace, putOwn, putIncoming, withSending}
+use Rattle.exchange.specs.declared.exchange.Sending.{Sending}
+use Rattle.exchange.specs.declared.exchange.Sending.the-variants as sending
+use Rattle.exchange.specs.declared.exchange.Exchange.{Exchange}
+use Rattle.exchange.specs.declared.request.Refusal.{Refusal}
+use Rattle.exchange.specs.declared.request.Refusal.the-variants as refusal
+use Rattle.exchange.specs.declared.request.Asked.{Asked}
+use Rattle.exchange.specs.declared.request.Asked.the-variants.{Taken, Refused}
+use Rattle.exchange.specs.declared.request.Primary.{Primary}
+use Rattle.exchange.specs.declared.request.Requested.{Requested}
+
+-- 01's table
+abbrev pub refusalNumber : Refusal → ℕ
+refusalNumber refusal.Message = 5
+refusalNumber refusal.DataLong = 6
+refusalNumber refusal.Sending = 7
+refusalNumber refusal.NoPlace = 8
+refusalNumber refusal.Place = 9
+refusalNumber refusal.NotWanted = 10
+refusalNumber refusal.Replied = 11
+
+-- the number of an answer; 0 where it is no refusal
+abbrev pub askedNumber : Asked → ℕ
+askedNumber (Taken p) = 0
+askedNumber (Refused r) = refusalNumber r
+
+-- What a request leaves: what it answers, and every byte of the room.
+pub record Asking : Type 0 where
+  pub answer : Requested
+  pub room : List ℕ
+
+abbrev pub asking : Requested → List ℕ → Asking
+asking q room = record { answer = q; room = room }
+
+-- a refused request changes nothing
+unfoldable pub refusedBy : Exchange → Refusal → Requested
+refusedBy x r = record { exchange = x; asked = Refused r }
+
+unfoldable pub refused : Exchange → Refusal → List ℕ → Asking
+refused x r room = asking (refusedBy x r) room
+
+-- ---- the tests, a row of 01's table each
+
+-- 5: "stream above 127; function even in a primary"
+unfoldable pub badPrimary : Primary → Bool
+badPrimary q = ltb 127 (q .stream) || eqb (q .function % 2) 0
+
+-- 5: "in a reply, neither primary + 1 nor 0"
+unfoldable pub badFunction : Header → ℕ → Bool
+badFunction h f = not (eqb f 0) && not (eqb f (h .function + 1))
+
+-- 6: "data above 4,096 bytes"
+unfoldable pub dataLong : ℕ → Bool
+dataLong n = ltb 4096 n
+
+-- 7: "a message is being sent or held"
+abbrev pub sendingBy : Sending → Bool
+sendingBy sending.Nothing = false
+sendingBy (sending.Primary p n) = true
+sendingBy (sending.Reply p f n) = true
+
+abbrev pub isSending : Exchange → Bool
+isSending x = sendingBy (x .sending)
+
+-- 9: "on release or reply, an incoming one not complete or with its reply being sent or held"
+unfoldable pub notReady : Incoming → Bool
+notReady i = not (incomingIsComplete i) && not (incomingIsReplied i)
+
+-- ---- open a primary
+
+-- R = 1 means to the host; "System bytes: the caller's 16-bit source ID, then the number."
+abbrev pub primaryHeader : Terms → Primary → ℕ → Header
+primaryHeader c q number = record {
+  r = not (c .host);
+  device = c .device;
+  w = q .w;
+  stream = q .stream;
+  function = q .function;
+  e = false;
+  number = 0;
+  system = q .source * 65536 + number;
+}
+
+-- a primary of n data bytes takes a place and this number
+abbrev pub claimedAs : Terms → Exchange → ℕ → Primary → ℕ → ℕ → Exchange
+claimedAs c x p q n number = record {
+  own = withOwn (x .own) p (ownClaimed (ownPlace x p) (headerBytes (primaryHeader c q number)));
+  incoming = x .incoming;
+  saved = x .saved;
+  numbers = record { last = number; latest = x .numbers .latest };
+  sending = sending.Primary p n;
+}
+
+unfoldable pub claimedAt : Terms → Exchange → ℕ → Primary → ℕ → Exchange
+claimedAt c x p q n = claimedAs c x p q n (nextNumber (x .own) (x .numbers .last) (x .numbers .latest))
+
+-- 8: "all 4 own places in use"
+abbrev pub openBy : Found → Terms → Exchange → Primary → List ℕ → List ℕ → Asking
+openBy (At p) c x q d room =
+    asking (record { exchange = claimedAt c x p q (length d); asked = Taken p }) (keptIn room message.Send 0 d)
+openBy Nowhere c x q d room = refused x refusal.NoPlace room
+
+unfoldable pub openFree : Terms → Exchange → Primary → List ℕ → List ℕ → Asking
+openFree c x q d room = openBy (freeOwn (x .own)) c x q d room
+
+-- "5, 6, 7, 8"
+unfoldable pub openOf : Terms → Exchange → Primary → List ℕ → List ℕ → Asking
+openOf c x q d room =
+    cond (badPrimary q) (refused x refusal.Message room)
+    (cond (dataLong (length d)) (refused x refusal.DataLong room)  -- 6
+    (cond (isSending x) (refused x refusal.Sending room)  -- before 8
+    (openFree c x q d room)))
+
+-- ---- reply
+
+unfoldable pub replyAccepted : Exchange → ℕ → ℕ → List ℕ → List ℕ → Asking
+replyAccepted x p f d room =
+    asking
+    (record {
+      exchange = withSending (putIncoming x p (incomingAnswered (incomingPlace x p))) (sending.Reply p f (length d));
+      asked = Taken p;
+    })
+    (keptIn room message.Send 0 d)
+
+-- "5, 6, 7"
+unfoldable pub replyReady : Exchange → ℕ → ℕ → List ℕ → List ℕ → Asking
+replyReady x p f d room =
+    cond (badFunction (primaryOf (incomingPlace x p)) f) (refused x refusal.Message room)
+    (cond (dataLong (length d)) (refused x refusal.DataLong room)
+    (cond (isSending x) (refused x refusal.Sending room)
+    (replyAccepted x p f d room)))
+
+-- "9, 10, 11" before those
+unfoldable pub replyOf : Exchange → ℕ → ℕ → List ℕ → List ℕ → Asking
+replyOf x p f d room =
+    cond (notReady (incomingPlace x p)) (refused x refusal.Place room)
+    (cond (not (primaryOf (incomingPlace x p) .w)) (refused x refusal.NotWanted room)
+    (cond (incomingIsReplied (incomingPlace x p)) (refused x refusal.Replied room)
+    (replyReady x p f d room)))
+
+-- ---- release: "asked for each place by itself"
+
+-- 9: "place above 3 or free; on release, an own place without verdict"
+unfoldable pub releaseOwn : Exchange → ℕ → Requested
+releaseOwn x p =
+    cond (ownHasVerdict (ownPlace x p))
+    (record { exchange = putOwn x p (ownReleased (ownPlace x p)); asked = Taken p })
+    (refusedBy x refusal.Place)
+
+unfoldable pub releaseIncoming : Exchange → ℕ → Requested
+releaseIncoming x p =
+    cond (notReady (incomingPlace x p)) (refusedBy x refusal.Place)
+    (record { exchange = putIncoming x p (incomingReleased (incomingPlace x p)); asked = Taken p })

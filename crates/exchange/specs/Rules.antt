@@ -1,0 +1,293 @@
+-- The seven rules of 01 ("A block that goes up is judged in this order"), each in 01's words over the places, and what is proved of
+-- judging by them. b is what the ten header bytes h say, d the block's data. Each proof is in `proofs/`.
+use Prim.Native.Nat.{ℕ, _+_, _%_, _≤_, _<_}
+use mathlib.Core.Path.{_≡_}
+use mathlib.Core.Bool.{Bool, true, false, cond}
+use mathlib.Core.List.{List}
+use mathlib.Core.Logic.{_↔_, _⊎_, _≢_}
+use lib.ListN.{length}
+use Rattle.header.specs.Header.{headerOf}
+use Rattle.header.specs.declared.header.Header.{Header}
+use Rattle.settings.specs.declared.terms.Terms.{Terms}
+use Rattle.room.specs.Room.{keptIn}
+use Rattle.room.specs.declared.Message.the-variants as message
+use Rattle.place.specs.Message.{Routed, StartsMessage, Continues, LacksData}
+use Rattle.place.specs.Own.{primaryOf as ownPrimary, stageAt as ownStageAt, replyOf, replyHeader, ended, ownKept, verdictOf}
+use Rattle.place.specs.Incoming.{primaryOf as incomingPrimary, stageAt as incomingStageAt, incomingLength}
+use Rattle.place.specs.declared.verdict.Verdict.the-variants.{Broken}
+use Rattle.place.specs.declared.own.Reply.{Reply}
+use Rattle.place.specs.declared.own.OwnStage.the-variants as own
+use Rattle.place.specs.declared.own.Own.{Own}
+use Rattle.place.specs.declared.incoming.IncomingStage.the-variants as incoming
+use Rattle.place.specs.declared.incoming.Incoming.{Incoming}
+use Rattle.table.specs.Own.{ownAt, replyFor}
+use Rattle.table.specs.Incoming.{incomingAt, messageFor}
+use Rattle.table.specs.Theorems.{Alike}
+use Rattle.table.specs.declared.find.Found.{Found}
+use Rattle.table.specs.declared.find.Found.the-variants.{At, Nowhere}
+use Rattle.exchange.specs.Note.{noteNumber}
+use Rattle.exchange.specs.Flags.{noFlags, verdictFlag, incomingFlags}
+use Rattle.exchange.specs.declared.flags.Flags.{Flags}
+use Rattle.exchange.specs.Exchange.{ownPlace, incomingPlace, putOwn, putIncoming, savedNow}
+use Rattle.exchange.specs.Judge.{Judging, judging, judgeOf}
+use Rattle.exchange.specs.declared.note.Note.the-variants.{Kept}
+use Rattle.exchange.specs.declared.exchange.Exchange.{Exchange}
+
+-- ---- four places
+
+-- each table has its four places
+pub record Fours (x : Exchange) : Type 0 where
+  pub own : length (x .own) ≡ 4
+  pub incoming : length (x .incoming) ≡ 4
+
+-- there is one among the places 0 to 3
+pub record Somewhere (P : ℕ → Type 0) : Type 0 where
+  pub place : ℕ
+  pub within : place < 4
+  pub so : P place
+
+-- place p is the lowest such one
+pub record LowestAt (P : ℕ → Type 0) (p : ℕ) : Type 0 where
+  pub within : p < 4
+  pub so : P p
+  pub none-below : (q : ℕ) → q < p → P q → ⊥
+
+-- ---- 2
+
+-- "Duplicate check on and all ten bytes of the header equal the saved one (none at a start)"
+pub record Duplicate (c : Terms) (x : Exchange) (h : List ℕ) : Type 0 where
+  pub check : c .duplicates ≡ true
+  pub any : x .saved .any ≡ true
+  pub same : x .saved .header ≡ h
+
+-- a block that passed 1 and 2
+pub record New (c : Terms) (x : Exchange) (h : List ℕ) : Type 0 where
+  pub routed : Routed c (headerOf h)
+  pub no-duplicate : Duplicate c x h → ⊥
+
+-- ---- 3
+
+-- a block of the reply to an own primary
+pub data OfReply (o : Own) (b : Header) : Type 0 where
+  -- "the first block of an awaited reply (same system bytes, even function, number 1, or 0 with E = 1)"
+  first : (timer : ℕ) → o .stage ≡ own.Awaiting timer → b .system ≡ ownPrimary o .system → b .function % 2 ≡ 0 → StartsMessage b → OfReply o b
+  -- "Continues an open message (device ID, system bytes, W, stream, function and next number)"
+  further : (timer next : ℕ) (r : Reply) → o .stage ≡ own.Replying timer next r → Continues (replyHeader (ownPrimary o) r) next b → OfReply o b
+
+-- a further block of a message of the far end that is open
+pub data OfMessage (i : Incoming) (b : Header) : Type 0 where
+  goes-on : (timer next n : ℕ) → i .stage ≡ incoming.Open timer next n → Continues (incomingPrimary i) next b → OfMessage i b
+
+-- "it must begin a primary: odd function, same number rule"
+pub record Begins (b : Header) : Type 0 where
+  pub odd : b .function % 2 ≡ 1
+  pub starts : StartsMessage b
+
+abbrev pub ReplyHere : Exchange → Header → Type 0
+ReplyHere x b = Somewhere (λ p. OfReply (ownPlace x p) b)
+
+abbrev pub MessageHere : Exchange → Header → Type 0
+MessageHere x b = Somewhere (λ p. OfMessage (incomingPlace x p) b)
+
+abbrev pub Expected : Exchange → Header → Type 0
+Expected x b = ReplyHere x b ⊎ MessageHere x b ⊎ Begins b
+
+-- ---- 5
+
+-- what is kept of the message that the block is of: of a reply, or of a message that is open; nothing of one that begins
+abbrev pub messageBytes : Found → List Incoming → ℕ
+messageBytes (At p) is = incomingLength (incomingAt is p)
+messageBytes Nowhere is = 0
+
+abbrev pub replyBytes : Found → List Own → List Incoming → Header → ℕ
+replyBytes (At p) os is b = ownKept (ownAt os p) .length
+replyBytes Nowhere os is b = messageBytes (messageFor is b) is
+
+abbrev pub bytesBefore : Exchange → Header → ℕ
+bytesBefore x b = replyBytes (replyFor (x .own) b) (x .own) (x .incoming) b
+
+-- It is what the place of that message has.
+pub record BytesOf (x : Exchange) (b : Header) : Type 0 where
+  pub reply : (p : ℕ) → LowestAt (λ q. OfReply (ownPlace x q) b) p → bytesBefore x b ≡ ownKept (ownPlace x p) .length
+  pub message : (ReplyHere x b → ⊥) → (p : ℕ) → LowestAt (λ q. OfMessage (incomingPlace x q) b) p → bytesBefore x b ≡ incomingLength (incomingPlace x p)
+  pub none : (ReplyHere x b → ⊥) → (MessageHere x b → ⊥) → bytesBefore x b ≡ 0
+
+abbrev pub BytesBefore : Type 0
+BytesBefore = (x : Exchange) (b : Header) → Fours x → BytesOf x b
+
+-- "Total data"
+abbrev pub total : Exchange → List ℕ → List ℕ → ℕ
+total x h d = bytesBefore x (headerOf h) + length d
+
+-- ---- 6
+
+-- "the system bytes of an open (not yet complete) incoming one"
+abbrev pub AlikeAt : Exchange → Header → ℕ → Type 0
+AlikeAt x b p = Alike b (incomingPlace x p)
+
+abbrev pub FreeAt : Exchange → ℕ → Type 0
+FreeAt x p = incomingPlace x p .stage ≡ incoming.Free
+
+abbrev pub AlikeHere : Exchange → Header → Type 0
+AlikeHere x b = Somewhere (AlikeAt x b)
+
+abbrev pub FreeHere : Exchange → Type 0
+FreeHere x = Somewhere (FreeAt x)
+
+-- the block's message has a place, or gets one
+abbrev pub HasPlace : Exchange → Header → Type 0
+HasPlace x b = ReplyHere x b ⊎ MessageHere x b ⊎ AlikeHere x b ⊎ FreeHere x
+
+-- ---- the seven rules in their order, each with its note
+
+pub data Ruled (c : Terms) (x : Exchange) (h d : List ℕ) : ℕ → Type 0 where
+  -- 1: "R-bit or device ID not this link's incoming one: note 22"
+  misrouted : (Routed c (headerOf h) → ⊥) → Ruled c x h d 22
+  -- 2: "note 23"
+  duplicate : Routed c (headerOf h) → Duplicate c x h → Ruled c x h d 23
+  -- 3: "Else note 24."
+  stray : New c x h → (Expected x (headerOf h) → ⊥) → Ruled c x h d 24
+  -- 4: "E = 0, or number above 1, with no data: note 27."
+  empty : New c x h → Expected x (headerOf h) → LacksData (headerOf h) (length d) → Ruled c x h d 27
+  -- 5: "Total data above 4,096: note 26"
+  too-long : New c x h → Expected x (headerOf h) → (LacksData (headerOf h) (length d) → ⊥) → 4096 < total x h d → Ruled c x h d 26
+  -- 6: "note 25 exactly if all four are in use", and the block's message is in none of them
+  no-place : New c x h → Expected x (headerOf h) → (LacksData (headerOf h) (length d) → ⊥) → total x h d ≤ 4096
+      → (HasPlace x (headerOf h) → ⊥) → Ruled c x h d 25
+  -- 7: "Kept: note 21."
+  kept : New c x h → Expected x (headerOf h) → (LacksData (headerOf h) (length d) → ⊥) → total x h d ≤ 4096
+      → HasPlace x (headerOf h) → Ruled c x h d 21
+
+abbrev pub noted : Judging → ℕ
+noted j = noteNumber (j .answer .note)
+
+-- Each note exactly when its rule says so and no earlier one does.
+abbrev pub NotesExactly : Type 0
+NotesExactly =
+    (c : Terms) (x : Exchange) (h d room : List ℕ) → Fours x → (n : ℕ) → (noted (judgeOf c x h d room) ≡ n) ↔ Ruled c x h d n
+
+-- ---- what judging leaves
+
+-- what judging comes to: the state, the flags, and the room
+pub record Comes (j : Judging) (y : Exchange) (raised : Flags) (left : List ℕ) : Type 0 where
+  pub state : j .answer .exchange ≡ y
+  pub flags : j .answer .flags ≡ raised
+  pub bytes : j .room ≡ left
+
+-- the state is this one, no flag is raised, and no byte of the room is touched
+abbrev pub Untouched : Exchange → List ℕ → Judging → Type 0
+Untouched y room j = Comes j y noFlags room
+
+pub record Leaves (x : Exchange) (h room : List ℕ) (j : Judging) : Type 0 where
+  -- 1: "note 22, saved header kept"
+  pub misrouted : noted j ≡ 22 → Untouched x room j
+  -- 2: "note 23; no timer, place or byte of room changes."
+  pub duplicate : noted j ≡ 23 → Untouched x room j
+  -- 2: "Otherwise the header is saved, even if the block is thrown out below."
+  pub saves : noted j ≢ 22 → noted j ≢ 23 → j .answer .exchange .saved ≡ record { any = true; header = h }
+  -- 3 and 6: nothing else changes
+  pub stray : noted j ≡ 24 → Untouched (savedNow x h) room j
+  pub no-place : noted j ≡ 25 → Untouched (savedNow x h) room j
+  -- no byte is kept of a block that is thrown out
+  pub thrown-out : noted j ≢ 21 → j .room ≡ room
+  -- no number is given, and what is being sent goes on
+  pub last : j .answer .exchange .numbers .last ≡ x .numbers .last
+  pub sending : j .answer .exchange .sending ≡ x .sending
+
+abbrev pub JudgeLeaves : Type 0
+JudgeLeaves = (c : Terms) (x : Exchange) (h d room : List ℕ) → Leaves x h room (judgeOf c x h d room)
+
+-- ---- the place of a new primary
+
+-- a block that passed 1 to 5 and begins a primary
+pub record NewPrimary (c : Terms) (x : Exchange) (h d : List ℕ) : Type 0 where
+  pub new : New c x h
+  pub no-reply : ReplyHere x (headerOf h) → ⊥
+  pub no-message : MessageHere x (headerOf h) → ⊥
+  pub begins : Begins (headerOf h)
+  pub has-data : LacksData (headerOf h) (length d) → ⊥
+  pub fits : length d ≤ 4096
+
+-- the place with the first block of a primary, n data bytes: complete with E = 1; else T4 runs from 0 and the next number is awaited
+abbrev pub begunWith : List ℕ → ℕ → Incoming
+begunWith h n = record { header = h; stage = cond (headerOf h .e) (incoming.Complete n) (incoming.Open 0 (headerOf h .number + 1) n) }
+
+-- all that it leaves in place p: `gone` is whether an open message is thrown out, which raises a flag, as its completion does
+abbrev pub begunIn : Exchange → ℕ → List ℕ → Bool → List ℕ → List ℕ → Judging
+begunIn x p h gone d room =
+    judging
+    (record { exchange = putIncoming (savedNow x h) p (begunWith h (length d)); note = Kept; flags = incomingFlags p (headerOf h .e) gone })
+    (keptIn room (message.Incoming p) 0 d)
+
+pub record Takes (c : Terms) (x : Exchange) (h d room : List ℕ) : Type 0 where
+  -- "A new primary with the system bytes of an open (not yet complete) incoming one throws that one out and takes its place"
+  pub alike : (p : ℕ) → LowestAt (AlikeAt x (headerOf h)) p → judgeOf c x h d room ≡ begunIn x p h true d room
+  -- "Otherwise it takes the lowest free incoming place"
+  pub free : (AlikeHere x (headerOf h) → ⊥) → (p : ℕ) → LowestAt (FreeAt x) p → judgeOf c x h d room ≡ begunIn x p h false d room
+  -- "note 25 exactly if all four are in use"
+  pub all-in-use : (noted (judgeOf c x h d room) ≡ 25) ↔ ((AlikeHere x (headerOf h) → ⊥) × (FreeHere x → ⊥))
+
+abbrev pub PlaceTaken : Type 0
+PlaceTaken = (c : Terms) (x : Exchange) (h d room : List ℕ) → Fours x → NewPrimary c x h d → Takes c x h d room
+
+-- ---- a block of a message that has its place: 4, 5 and 7
+
+-- the block is noted 27 or 26
+abbrev pub Spoils : Header → ℕ → List ℕ → Type 0
+Spoils b have d = LacksData b (length d) ⊎ (4096 < have + length d)
+
+-- it is kept
+pub record Fits (b : Header) (have : ℕ) (d : List ℕ) : Type 0 where
+  pub has-data : LacksData b (length d) → ⊥
+  pub fits : have + length d ≤ 4096
+
+-- the reply in own place p, of which `have` bytes are kept
+pub record ReplyGoes (x : Exchange) (h d room : List ℕ) (p have : ℕ) (j : Judging) : Type 0 where
+  -- "An open message, or awaited reply, ends broken."
+  pub broken : Spoils (headerOf h) have d → Comes j (putOwn (savedNow x h) p (ended (ownPlace x p) Broken)) (verdictFlag p true) room
+  -- with E = 1 the place gets its verdict
+  pub complete :
+      Fits (headerOf h) have d → headerOf h .e ≡ true
+      → Comes j
+      (putOwn (savedNow x h) p (ownStageAt (ownPlace x p) (own.Done (verdictOf (ownPlace x p) (headerOf h)) (replyOf (headerOf h) (have + length d)))))
+      (verdictFlag p true) (keptIn room (message.Reply p) have d)
+  -- "With E = 0, T4 restarts."
+  pub more :
+      Fits (headerOf h) have d → headerOf h .e ≡ false
+      → Comes j
+      (putOwn (savedNow x h) p (ownStageAt (ownPlace x p) (own.Replying 0 (headerOf h .number + 1) (replyOf (headerOf h) (have + length d)))))
+      noFlags (keptIn room (message.Reply p) have d)
+
+abbrev pub ReplyBlock : Type 0
+ReplyBlock =
+    (c : Terms) (x : Exchange) (h d room : List ℕ) → Fours x → New c x h
+    → (p : ℕ) → LowestAt (λ q. OfReply (ownPlace x q) (headerOf h)) p
+    → ReplyGoes x h d room p (bytesBefore x (headerOf h)) (judgeOf c x h d room)
+
+-- the message in incoming place p, of which `have` bytes are kept
+pub record MessageGoes (x : Exchange) (h d room : List ℕ) (p have : ℕ) (j : Judging) : Type 0 where
+  -- "A broken incoming message frees its place."
+  pub broken :
+      Spoils (headerOf h) have d
+      → Comes j (putIncoming (savedNow x h) p (incomingStageAt (incomingPlace x p) incoming.Free)) (incomingFlags p false true) room
+  pub complete :
+      Fits (headerOf h) have d → headerOf h .e ≡ true
+      → Comes j (putIncoming (savedNow x h) p (incomingStageAt (incomingPlace x p) (incoming.Complete (have + length d)))) (incomingFlags p true false)
+      (keptIn room (message.Incoming p) have d)
+  -- "With E = 0, T4 restarts."
+  pub more :
+      Fits (headerOf h) have d → headerOf h .e ≡ false
+      → Comes j (putIncoming (savedNow x h) p (incomingStageAt (incomingPlace x p) (incoming.Open 0 (headerOf h .number + 1) (have + length d)))) noFlags
+      (keptIn room (message.Incoming p) have d)
+
+abbrev pub MessageBlock : Type 0
+MessageBlock =
+    (c : Terms) (x : Exchange) (h d room : List ℕ) → Fours x → New c x h → (ReplyHere x (headerOf h) → ⊥)
+    → (p : ℕ) → LowestAt (λ q. OfMessage (incomingPlace x q) (headerOf h)) p
+    → MessageGoes x h d room p (bytesBefore x (headerOf h)) (judgeOf c x h d room)
+
+-- "A primary not yet open takes no place."
+abbrev pub NoPlaceTaken : Type 0
+NoPlaceTaken =
+    (c : Terms) (x : Exchange) (h d room : List ℕ) → Fours x → New c x h → (ReplyHere x (headerOf h) → ⊥) → (MessageHere x (headerOf h) → ⊥)
+    → Spoils (headerOf h) 0 d → Untouched (savedNow x h) room (judgeOf c x h d room)

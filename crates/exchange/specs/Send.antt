@@ -1,0 +1,66 @@
+-- The message that is being sent: what it is, and how its sending ends (E4 7.3; 01, "Messages").
+use Prim.Native.Nat.{ℕ}
+use mathlib.Core.Bool.{false, not}
+use Rattle.header.specs.declared.header.Header.{Header}
+use Rattle.place.specs.Own.{primaryOf as ownPrimary, ownSent, ownFailed}
+use Rattle.place.specs.Incoming.{primaryOf as incomingPrimary, incomingSent, incomingFailed}
+use Rattle.place.specs.declared.own.Own.{Own}
+use Rattle.place.specs.declared.incoming.Incoming.{Incoming}
+use Rattle.exchange.specs.Flags.{noFlags, verdictFlag}
+use Rattle.exchange.specs.Exchange.{ownPlace, incomingPlace, gotVerdict, putOwn, putIncoming, withSending}
+use Rattle.exchange.specs.declared.exchange.Sending.{Sending}
+use Rattle.exchange.specs.declared.exchange.Sending.the-variants.{Nothing, Primary, Reply}
+use Rattle.exchange.specs.declared.exchange.Exchange.{Exchange}
+use Rattle.exchange.specs.declared.tick.Told.{Told}
+use Rattle.exchange.specs.declared.send.Outgoing.{Outgoing}
+use Rattle.exchange.specs.declared.send.Outgoing.the-variants as outgoing
+
+-- "A reply of ours has W = 0"; "the complement of the R-bit" and the same system bytes (E4 7.3.1, 6.8.2); the stream is the primary's
+abbrev pub replyTo : Header → ℕ → Header
+replyTo h f = record {
+  r = not (h .r);
+  device = h .device;
+  w = false;
+  stream = h .stream;
+  function = f;
+  e = false;
+  number = 0;
+  system = h .system;
+}
+
+abbrev pub outgoingAt : Sending → Exchange → Outgoing
+outgoingAt Nothing x = outgoing.Nothing
+outgoingAt (Primary p n) x = outgoing.Message (ownPrimary (ownPlace x p)) n
+outgoingAt (Reply p f n) x = outgoing.Message (replyTo (incomingPrimary (incomingPlace x p)) f) n
+
+abbrev pub outgoingOf : Exchange → Outgoing
+outgoingOf x = outgoingAt (x .sending) x
+
+abbrev pub told : Exchange → Told
+told x = record { exchange = x; flags = noFlags }
+
+-- the sending of a primary is over
+unfoldable pub endedOwn : Exchange → ℕ → Own → Told
+endedOwn x p o = record { exchange = withSending (putOwn x p o) Nothing; flags = verdictFlag p (gotVerdict (ownPlace x p) o) }
+
+-- the sending of a reply is over: that raises no flag
+unfoldable pub endedReply : Exchange → ℕ → Incoming → Told
+endedReply x p i = told (withSending (putIncoming x p i) Nothing)
+
+abbrev pub sentBy : Sending → Exchange → Told
+sentBy Nothing x = told x
+sentBy (Primary p n) x = endedOwn x p (ownSent (ownPlace x p))
+sentBy (Reply p f n) x = endedReply x p (incomingSent (incomingPlace x p))
+
+-- the last block of the message being sent was acknowledged
+abbrev pub sentOf : Exchange → Told
+sentOf x = sentBy (x .sending) x
+
+abbrev pub failedBy : Sending → Exchange → Told
+failedBy Nothing x = told x
+failedBy (Primary p n) x = endedOwn x p (ownFailed (ownPlace x p))
+failedBy (Reply p f n) x = endedReply x p (incomingFailed (incomingPlace x p))
+
+-- a block of it failed
+abbrev pub failedOf : Exchange → Told
+failedOf x = failedBy (x .sending) x

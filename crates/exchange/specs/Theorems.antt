@@ -1,0 +1,144 @@
+-- What is proved of the transactions over every list of calls from a fresh start (`specs/History.antt`). Each proof is in `proofs/`.
+-- The rules of judging are in `specs/Rules.antt`, the refusals in `specs/Refusals.antt`.
+use Prim.Native.Nat.{ℕ, _≤_, _<_}
+use mathlib.Core.Path.{_≡_}
+use mathlib.Core.Bool.{Bool, true, false, not, _&&_}
+use mathlib.Core.List.{List}
+use lib.ListN.{length, getD}
+use Rattle.settings.specs.declared.terms.Terms.{Terms}
+use Rattle.room.specs.Room.{front}
+use Rattle.room.specs.declared.Message.{Message}
+use Rattle.room.specs.declared.Message.the-variants as message
+use Rattle.place.specs.Own.{ownKept}
+use Rattle.place.specs.OwnTheorems.{Reached as OwnReached}
+use Rattle.place.specs.OwnHistory.{Track as OwnTrack}
+use Rattle.place.specs.IncomingTheorems.{Reached as IncomingReached}
+use Rattle.place.specs.IncomingHistory.{Track as IncomingTrack}
+use Rattle.place.specs.Incoming.{incomingLength, incomingIsFree, incomingIsOpen, incomingIsComplete}
+use Rattle.place.specs.declared.verdict.Verdict.{Verdict}
+use Rattle.place.specs.declared.verdict.Verdict.the-variants.{Sent, Answered, Declined, Other, Broken, NoReply, SendFailed}
+use Rattle.place.specs.declared.own.OwnStage.{OwnStage}
+use Rattle.place.specs.declared.own.OwnStage.the-variants as stage
+use Rattle.place.specs.declared.own.Own.{Own}
+use Rattle.place.specs.declared.incoming.Incoming.{Incoming}
+use Rattle.exchange.specs.Exchange.{ownPlace, incomingPlace, gotVerdict}
+use Rattle.exchange.specs.Tick.{tickOf, wasDropped}
+use Rattle.exchange.specs.Send.{sentOf, failedOf}
+use Rattle.exchange.specs.Judge.{judgeOf}
+use Rattle.exchange.specs.Range.{exchangeInRange}
+use Rattle.exchange.specs.History.{Call, Track, track, atStart}
+use Rattle.exchange.specs.declared.flags.Flags.{Flags}
+use Rattle.exchange.specs.declared.exchange.Exchange.{Exchange}
+use Rattle.exchange.specs.declared.exchange.Sending.{Sending}
+use Rattle.exchange.specs.declared.exchange.Sending.the-variants as sending
+
+-- what any calls from a fresh start leave, with a room of 36,864 bytes
+pub record Reached (c : Terms) (t : Track) : Type 0 where
+  pub last : ℕ
+  pub room : List ℕ
+  pub whole : length room ≡ 36864
+  pub calls : List Call
+  pub so : track c (atStart last room) calls ≡ t
+
+-- ---- the areas
+
+-- the area of message m begins with bs, which are n bytes
+pub record StartsWith (room : List ℕ) (m : Message) (n : ℕ) (bs : List ℕ) : Type 0 where
+  pub size : n ≡ length bs
+  pub bytes : front room m n ≡ bs
+
+-- "After 2, 3 or 4", and while blocks of the reply are kept
+abbrev pub byVerdict : Verdict → Bool
+byVerdict Sent = false
+byVerdict Answered = true
+byVerdict Declined = true
+byVerdict Other = true
+byVerdict Broken = false
+byVerdict NoReply = false
+byVerdict SendFailed = false
+
+abbrev pub hasReply : OwnStage → Bool
+hasReply stage.Free = false
+hasReply stage.Sending = false
+hasReply (stage.Awaiting timer) = false
+hasReply (stage.Replying timer next r) = true
+hasReply (stage.Done v r) = byVerdict v
+
+-- the length of the message being sent, and whether there is one
+abbrev pub lengthSent : Sending → ℕ
+lengthSent sending.Nothing = 0
+lengthSent (sending.Primary p n) = n
+lengthSent (sending.Reply p f n) = n
+
+abbrev pub sends : Sending → Bool
+sends sending.Nothing = false
+sends (sending.Primary p n) = true
+sends (sending.Reply p f n) = true
+
+-- "After 2, 3 or 4, or once an incoming message is complete, its area begins with the data of the kept blocks joined": and so does
+-- that of every reply and every message that is open; and the send area begins with the data of the message being sent.
+pub record Areas (t : Track) : Type 0 where
+  pub reply : (p : ℕ) → p < 4 → hasReply (ownPlace (t .exchange) p .stage) ≡ true
+      → StartsWith (t .room) (message.Reply p) (ownKept (ownPlace (t .exchange) p) .length) (t .seen .replies p)
+  pub incoming : (p : ℕ) → p < 4 → incomingIsFree (incomingPlace (t .exchange) p) ≡ false
+      → StartsWith (t .room) (message.Incoming p) (incomingLength (incomingPlace (t .exchange) p)) (t .seen .messages p)
+  pub outgoing : sends (t .exchange .sending) ≡ true → StartsWith (t .room) message.Send (lengthSent (t .exchange .sending)) (t .seen .outgoing)
+
+abbrev pub JoinedInAreas : Type 0
+JoinedInAreas = (c : Terms) (t : Track) → Reached c t → Areas t
+
+-- ---- the places
+
+-- Each place inside goes through events of a place and nothing else: what is proved of a place over every list of its events holds
+-- of it here.
+pub record OwnInside (c : Terms) (o : Own) : Type 0 where
+  pub track : OwnTrack
+  pub reached : OwnReached c track
+  pub so : track .own ≡ o
+
+pub record IncomingInside (c : Terms) (i : Incoming) : Type 0 where
+  pub track : IncomingTrack
+  pub reached : IncomingReached c track
+  pub so : track .incoming ≡ i
+
+pub record Inside (c : Terms) (t : Track) : Type 0 where
+  pub own : (p : ℕ) → p < 4 → OwnInside c (ownPlace (t .exchange) p)
+  pub incoming : (p : ℕ) → p < 4 → IncomingInside c (incomingPlace (t .exchange) p)
+
+abbrev pub PlacesInside : Type 0
+PlacesInside = (c : Terms) (t : Track) → Reached c t → Inside c t
+
+-- ---- flags
+
+-- flag p of four
+abbrev pub flagAt : List Bool → ℕ → Bool
+flagAt flags p = getD flags p false
+
+-- the message in a place became complete now
+unfoldable pub becameComplete : Incoming → Incoming → Bool
+becameComplete before after = not (incomingIsComplete before) && incomingIsComplete after
+
+-- "flags for places that got a verdict, completed or were dropped": from what the places are before and after the call. (A place
+-- whose open message a new primary throws out is flagged as dropped too: `PlaceTaken`, specs/Rules.antt.)
+pub record Flagged (before after : Exchange) (flags : Flags) : Type 0 where
+  pub verdicts : (p : ℕ) → p < 4 → flagAt (flags .verdicts) p ≡ gotVerdict (ownPlace before p) (ownPlace after p)
+  pub completed : (p : ℕ) → p < 4 → flagAt (flags .completed) p ≡ becameComplete (incomingPlace before p) (incomingPlace after p)
+  pub dropped : (p : ℕ) → p < 4 → wasDropped (incomingPlace before p) (incomingPlace after p) ≡ true → flagAt (flags .dropped) p ≡ true
+  pub was-open : (p : ℕ) → p < 4 → flagAt (flags .dropped) p ≡ true → incomingIsOpen (incomingPlace before p) ≡ true
+
+-- of each call that answers flags
+pub record FlagsTell (c : Terms) (x : Exchange) : Type 0 where
+  pub judged : (h d room : List ℕ) → Flagged x (judgeOf c x h d room .answer .exchange) (judgeOf c x h d room .answer .flags)
+  pub ticked : Flagged x (tickOf c x .exchange) (tickOf c x .flags)
+  pub sent : Flagged x (sentOf x .exchange) (sentOf x .flags)
+  pub failed : Flagged x (failedOf x .exchange) (failedOf x .flags)
+
+abbrev pub FlagsExactly : Type 0
+FlagsExactly = (c : Terms) (x : Exchange) → length (x .own) ≡ 4 → length (x .incoming) ≡ 4 → FlagsTell c x
+
+-- ---- ranges
+
+-- the transactions' part of refusal 3: with T3 and T4 in 01's range, no state that is reached has a number outside docs/STATE.md
+abbrev pub ExchangeReachedInRange : Type 0
+ExchangeReachedInRange =
+    (c : Terms) → c .t3 .0 ≤ 1200 → c .t4 .0 ≤ 1200 → (t : Track) → Reached c t → exchangeInRange (t .exchange) ≡ true

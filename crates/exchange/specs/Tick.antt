@@ -1,0 +1,53 @@
+-- A tick: "own places 0 to 3, then incoming places 0 to 3" (01, "Messages").
+use Prim.Native.Nat.{ℕ}
+use mathlib.Core.Bool.{Bool, _&&_}
+use mathlib.Core.List.{List, [], _∷_}
+use Rattle.settings.specs.declared.terms.Terms.{Terms}
+use Rattle.place.specs.Incoming.{incomingIsFree, incomingIsOpen}
+use Rattle.place.specs.declared.own.Own.{Own}
+use Rattle.place.specs.declared.incoming.Incoming.{Incoming}
+use Rattle.table.specs.Own.{ownAt, tickedOwn}
+use Rattle.table.specs.Incoming.{incomingAt, tickedIncoming}
+use Rattle.exchange.specs.Flags.{noMarks}
+use Rattle.exchange.specs.Exchange.{gotVerdict, latestAfter}
+use Rattle.exchange.specs.declared.exchange.Exchange.{Exchange}
+use Rattle.exchange.specs.declared.tick.Told.{Told}
+
+-- which own places got their verdict
+abbrev pub gotMarks : List Own → List Own → List Bool
+gotMarks os qs =
+    gotVerdict (ownAt os 0) (ownAt qs 0) ∷ gotVerdict (ownAt os 1) (ownAt qs 1)
+    ∷ gotVerdict (ownAt os 2) (ownAt qs 2) ∷ gotVerdict (ownAt os 3) (ownAt qs 3) ∷ []
+
+-- of several verdicts in one tick the last of places 0 to 3 is the latest
+abbrev pub latestOver : ℕ → List Own → List Own → ℕ
+latestOver latest os qs =
+    latestAfter
+    (latestAfter (latestAfter (latestAfter latest (ownAt os 0) (ownAt qs 0)) (ownAt os 1) (ownAt qs 1)) (ownAt os 2) (ownAt qs 2))
+    (ownAt os 3)
+    (ownAt qs 3)
+
+-- a tick drops an open message whose T4 runs out
+unfoldable pub wasDropped : Incoming → Incoming → Bool
+wasDropped before after = incomingIsOpen before && incomingIsFree after
+
+abbrev pub goneMarks : List Incoming → List Incoming → List Bool
+goneMarks is js =
+    wasDropped (incomingAt is 0) (incomingAt js 0) ∷ wasDropped (incomingAt is 1) (incomingAt js 1)
+    ∷ wasDropped (incomingAt is 2) (incomingAt js 2) ∷ wasDropped (incomingAt is 3) (incomingAt js 3) ∷ []
+
+unfoldable pub tickOf : Terms → Exchange → Told
+tickOf c x = record {
+  exchange = record {
+    own = tickedOwn c (x .own);
+    incoming = tickedIncoming c (x .incoming);
+    saved = x .saved;
+    numbers = record { last = x .numbers .last; latest = latestOver (x .numbers .latest) (x .own) (tickedOwn c (x .own)) };
+    sending = x .sending;
+  };
+  flags = record {
+    verdicts = gotMarks (x .own) (tickedOwn c (x .own));
+    completed = noMarks;
+    dropped = goneMarks (x .incoming) (tickedIncoming c (x .incoming));
+  };
+}

@@ -1,0 +1,97 @@
+// A tick: "own places 0 to 3, then incoming places 0 to 3" (01, "Messages").
+ghost use mathlib.Core.Path.{_≡_};
+ghost use Rattle.exchange.specs.Tick.{gotMarks, goneMarks, latestOver, tickOf, wasDropped};
+use crate::exchange::Exchange;
+use crate::exchange::Numbers;
+use crate::exchange::got_verdict;
+use crate::exchange::latest_after;
+use crate::flags::Flags;
+use place::Incoming;
+use place::Own;
+use settings::Terms;
+use table::incoming_at;
+use table::own_at;
+use table::tick_incoming;
+use table::tick_own;
+
+// What a tick, or the end of a send, leaves: the next state, and flags.
+pub struct Told {
+    pub exchange: Exchange,
+    pub flags: Flags,
+}
+
+fn got_marks(before: [Own; 4], after: [Own; 4]) -> [bool; 4]
+    ensures { λ r. ⌜ r ≡ gotMarks before after ⌝ }
+{
+    [
+        got_verdict(own_at(before, 0), own_at(after, 0)),
+        got_verdict(own_at(before, 1), own_at(after, 1)),
+        got_verdict(own_at(before, 2), own_at(after, 2)),
+        got_verdict(own_at(before, 3), own_at(after, 3)),
+    ]
+}
+
+// Of several verdicts in one tick that of the highest place is the latest.
+fn latest_over(latest: u16, before: [Own; 4], after: [Own; 4]) -> u16
+    ensures { λ r. ⌜ r ≡ latestOver latest before after ⌝ }
+{
+    let first = latest_after(latest, own_at(before, 0), own_at(after, 0));
+    let second = latest_after(first, own_at(before, 1), own_at(after, 1));
+    let third = latest_after(second, own_at(before, 2), own_at(after, 2));
+    latest_after(third, own_at(before, 3), own_at(after, 3))
+}
+
+// A tick drops an open message whose T4 runs out.
+fn was_dropped(before: Incoming, after: Incoming) -> bool
+    ensures { λ r. ⌜ r ≡ wasDropped before after ⌝ }
+{
+    if before.is_open() {
+        return after.is_free();
+    }
+    false
+}
+
+fn gone_marks(before: [Incoming; 4], after: [Incoming; 4]) -> [bool; 4]
+    ensures { λ r. ⌜ r ≡ goneMarks before after ⌝ }
+{
+    [
+        was_dropped(incoming_at(before, 0), incoming_at(after, 0)),
+        was_dropped(incoming_at(before, 1), incoming_at(after, 1)),
+        was_dropped(incoming_at(before, 2), incoming_at(after, 2)),
+        was_dropped(incoming_at(before, 3), incoming_at(after, 3)),
+    ]
+}
+
+impl Exchange {
+    // 0.1 s have passed.
+    pub fn tick(self, terms: Terms) -> Told
+        ensures { λ r. ⌜ r ≡ tickOf terms self ⌝ }
+    {
+        let own_before = self.own;
+        let incoming_before = self.incoming;
+        let own = tick_own(own_before, terms);
+        let incoming = tick_incoming(incoming_before, terms);
+        let saved = self.saved;
+        let sending = self.sending;
+        let numbers = Numbers {
+            last: self.numbers.last,
+            latest: latest_over(self.numbers.latest, own_before, own),
+        };
+        let verdicts = got_marks(own_before, own);
+        let completed = [false; 4];
+        let dropped = gone_marks(incoming_before, incoming);
+        let exchange = Exchange {
+            own,
+            incoming,
+            saved,
+            numbers,
+            sending,
+        };
+        let flags = Flags {
+            verdicts,
+            completed,
+            dropped,
+        };
+        Told { exchange, flags }
+    }
+}

@@ -1,0 +1,39 @@
+-- The verdict of an own place falls in time. Assumes nothing.
+use Prim.Native.Nat.{ℕ, _+_, _*_, _≤_}
+use mathlib.Core.Path.{_≡_, refl}
+use mathlib.Core.List.{List, []}
+use mathlib.Core.Logic.{_⊎_, inl, inr, ⊎-elim}
+use native.Mathlib.Omega.{arith}
+use native.Mathlib.Nat.{mul-le-mul-right}
+use Rattle.settings.specs.declared.terms.Terms.{Terms}
+use Rattle.place.specs.OwnHistory.{acknowledged, Seen}
+use Rattle.place.specs.OwnTheorems.{Decided, VerdictFalls}
+use Rattle.place.proofs.OwnInvariant.{At, placeAt, meet, is-acked, no-block}
+use Rattle.place.proofs.OwnAlways.{always}
+use Rattle.place.specs.declared.own.OwnStage.{OwnStage}
+use Rattle.place.specs.declared.own.OwnStage.the-variants.{Free, Sending, Awaiting, Replying, Done}
+
+-- there is time left: less than T3 + 4096 x T4 + 1 ticks have passed, and less than T3 + 1 if no block is kept
+record Early (c : Terms) (s : Seen) : Type 0 where
+  in-all : s .since ≤ c .t3 .0 + 4096 * c .t4 .0
+  in-silence : s .kept ≡ [] → s .since ≤ c .t3 .0
+
+-- from the ACK on there is a verdict or time left
+decided : (c : Terms) (p : OwnStage) (h : List ℕ) (s : Seen) → At c p h s → s .request ≡ acknowledged → Decided (meet (placeAt h p) s) ⊎ Early c s
+decided c Free h s g a = absurd (is-acked _ _ g a)
+decided c Sending h s g a = absurd (is-acked _ _ (g .request) a)
+decided c (Awaiting timer) h s g a = inr (record { in-all = omega (arith, g .since, g .within); in-silence = λ e. omega (arith, g .since, g .within) })
+decided c (Replying timer next r) h s g a =
+    inr (record {
+      in-all = omega (arith, g .late, g .within, mul-le-mul-right (c .t4 .0) (g .room));
+      in-silence = λ e. absurd (no-block (s .kept) e (g .begun .some));
+    })
+decided c (Done v r) h s g a = inl (record { verdict = v; shown = refl })
+
+pub verdict-falls : VerdictFalls
+verdict-falls c t w =
+    let d = decided c (t .own .stage) (t .own .header) (t .seen) (always c t w) in
+    record {
+      by-limit = λ a n. ⊎-elim (λ x. x) (λ early. absurd (omega (arith, early .in-all))) (d a);
+      by-silence = λ a e n. ⊎-elim (λ x. x) (λ early. absurd (omega (arith, early .in-silence e))) (d a);
+    }

@@ -1,0 +1,473 @@
+-- What holds of an own place and its onlooker after any events at a fresh place, and what one event more leaves. Assumes nothing.
+use Prim.Native.Nat.{ℕ, _+_, _*_, _≤_}
+use mathlib.Core.Path.{_≡_, refl, sym, ap, subst, _∙_}
+use mathlib.Core.Bool.{Bool, true, false, cond, false≢true}
+use mathlib.Core.List.{List, [], _∷_, _++_}
+use mathlib.Core.Logic.{_↔_, inl, inr, ⊎-elim}
+use native.Mathlib.Omega.{arith}
+use native.Mathlib.Nat.{mul-le-mul-right}
+use lib.Dec.{eqb}
+use lib.ListN.{length}
+use borrow.Author.Tests.{eqb-true, eqb-false, eq-eqb}
+use Rattle.wire.proofs.Choice.{either, chosen, both}
+use Rattle.header.specs.Header.{headerOf}
+use Rattle.header.specs.Theorems.{SameElse}
+use Rattle.header.specs.declared.header.Header.{Header}
+use Rattle.settings.proofs.Timers.{by-timer}
+use Rattle.settings.specs.declared.terms.Terms.{Terms}
+use Rattle.place.specs.Fate.{beginsReply, fateOf}
+use Rattle.place.specs.Message.{Routed, Continues, firstOf, Whole, Begun}
+use Rattle.place.specs.Own.{primaryOf, noReply, replyOf, replyHeader, ended, ownKept, acknowledged, awaitedBy, awaitTick, replyingBy, replyTick, awaits, continuesReply, ownTakes, verdictOf, follows, repliedBy, replied, ownOffered}
+use Rattle.place.specs.OwnHistory.{Event, claim, sent, failed, tick, release, block, passed, answerBy, answerTo, Request, none, underway, lost, Seen, asked, acked, gaveUp, answered, Track, next}
+use Rattle.place.specs.OwnHistory as onlooker
+use Rattle.place.specs.OwnTheorems.{Asked, Complete, Earned, BeginsReply}
+use Rattle.place.proofs.Messages.{one-longer, first-more, begun-first, whole-first, begun-more, whole-more, none-not-whole, begun-not-whole, number-first, number-one, continues, same-else, by-fate}
+use Rattle.place.proofs.Judging.{reply-exactly}
+use Rattle.place.specs.declared.verdict.Verdict.{Verdict}
+use Rattle.place.specs.declared.verdict.Verdict.the-variants.{Sent, Answered, Declined, Other, Broken, NoReply, SendFailed}
+use Rattle.place.specs.declared.verdict.Standing.{Standing}
+use Rattle.place.specs.declared.verdict.Standing.the-variants as standing
+use Rattle.place.specs.declared.own.Reply.{Reply}
+use Rattle.place.specs.declared.own.OwnStage.{OwnStage}
+use Rattle.place.specs.declared.own.OwnStage.the-variants.{Free, Sending, Awaiting, Replying, Done}
+use Rattle.place.specs.declared.own.Own.{Own}
+
+-- ---- what holds at each stage
+
+-- the request with header bytes h is on its way
+pub record Leaves (h : List ℕ) (s : Seen) : Type 0 where
+  pub request : s .request ≡ underway
+  pub header : s .header ≡ headerOf h
+
+-- its reply is awaited, and no block of it has come
+pub record Waits (c : Terms) (h : List ℕ) (s : Seen) (timer : ℕ) : Type 0 where
+  pub asked : Asked s
+  pub header : s .header ≡ headerOf h
+  pub kept : s .kept ≡ []
+  pub bytes : s .bytes ≡ 0
+  pub unspoilt : s .spoilt ≡ false
+  pub since : s .since ≡ timer
+  pub within : timer ≤ c .t3 .0
+
+-- a reply has begun: its first block passed rule 1 and has the request's system bytes; what the place knows of it is what that
+-- block says, and the bytes kept
+pub record Arrives (c : Terms) (h : List ℕ) (s : Seen) (timer next : ℕ) (r : Reply) : Type 0 where
+  pub asked : Asked s
+  pub header : s .header ≡ headerOf h
+  pub begun : Begun (s .kept)
+  pub number : next ≡ length (s .kept) + 1
+  pub routed : Routed c (firstOf (s .kept))
+  pub system : firstOf (s .kept) .system ≡ headerOf h .system
+  pub reply : r ≡ replyOf (firstOf (s .kept)) (s .bytes)
+  pub unspoilt : s .spoilt ≡ false
+  pub full : length (s .kept) ≤ s .bytes
+  pub room : s .bytes ≤ 4096
+  pub quiet : s .quiet ≡ timer
+  pub within : timer ≤ c .t4 .0
+  pub late : s .since + c .t4 .0 ≤ c .t3 .0 + s .bytes * c .t4 .0 + timer
+
+-- the verdicts on a whole reply
+abbrev pub onReply : Verdict → Bool
+onReply Sent = false
+onReply Answered = true
+onReply Declined = true
+onReply Other = true
+onReply Broken = false
+onReply NoReply = false
+onReply SendFailed = false
+
+-- the verdict is earned
+pub record Ended (c : Terms) (s : Seen) (v : Verdict) (r : Reply) : Type 0 where
+  pub earned : Earned c s v
+  pub room : r .length ≤ 4096
+  pub counted : onReply v ≡ true → r .length ≡ s .bytes
+
+-- at each stage, of the place with header bytes h and of what the onlooker has seen
+abbrev pub At : Terms → OwnStage → List ℕ → Seen → Type 0
+At c Free h s = s .request ≡ none
+At c Sending h s = Leaves h s
+At c (Awaiting timer) h s = Waits c h s timer
+At c (Replying timer next r) h s = Arrives c h s timer next r
+At c (Done v r) h s = Ended c s v r
+
+abbrev pub Good : Terms → Track → Type 0
+Good c t = At c (t .own .stage) (t .own .header) (t .seen)
+
+abbrev pub placeAt : List ℕ → OwnStage → Own
+placeAt h p = record { header = h; stage = p }
+
+abbrev pub meet : Own → Seen → Track
+meet o s = record { own = o; seen = s }
+
+-- what one event leaves of a place at this stage
+abbrev After : (c : Terms) → List ℕ → OwnStage → Seen → Event c → Type 0
+After c h p s e = Good c (next (meet (placeAt h p) s) e)
+
+-- this test fails
+never : {A : Type 0} → false ≡ true → A
+never e = absurd (false≢true e)
+
+-- what is acknowledged is not at another point
+abbrev pub IsAcked : Request → Type 0
+IsAcked none = ⊥
+IsAcked underway = ⊥
+IsAcked onlooker.acknowledged = Unit {0}
+IsAcked lost = ⊥
+
+pub is-acked : (q r : Request) → q ≡ r → q ≡ onlooker.acknowledged → IsAcked r
+is-acked q r e a = subst IsAcked (sym a ∙ e) tt
+
+-- what is free or open is not a verdict
+abbrev pub HasVerdict : Standing → Type 0
+HasVerdict standing.Free = ⊥
+HasVerdict standing.Open = ⊥
+HasVerdict (standing.Given v) = Unit {0}
+
+-- a list with a block in it is not empty
+pub no-block : (bs : List Header) → bs ≡ [] → 1 ≤ length bs → ⊥
+no-block bs e some = omega (arith, rw e at some)
+
+-- ---- a block of the reply
+
+-- block b goes on with the blocks kept, and the message stays in its bounds
+record Joins (c : Terms) (h : List ℕ) (s : Seen) (b : Header) : Type 0 where
+  asked : Asked s
+  header : s .header ≡ headerOf h
+  unspoilt : s .spoilt ≡ false
+  not-yet : Whole (s .kept) → ⊥
+  routed : Routed c b
+  system : b .system ≡ headerOf h .system
+  same : SameElse b (firstOf (s .kept ++ (b ∷ [])))
+  last : b .e ≡ true → Whole (s .kept ++ (b ∷ []))
+  more : b .e ≡ false → Begun (s .kept ++ (b ∷ []))
+  number : b .e ≡ false → b .number ≡ length (s .kept) + 1
+  full : length (s .kept) ≤ s .bytes
+  late : s .since ≤ c .t3 .0 + s .bytes * c .t4 .0
+
+-- the verdict on a whole reply is the one earned: b is its last block
+verdict-earned :
+    (c : Terms) (o : Own) (s : Seen) (b : Header) → s .header ≡ primaryOf o → SameElse b (firstOf (s .kept)) → Complete s → Earned c s (verdictOf o b)
+unfolding verdictOf
+verdict-earned c o s b h same w =
+    let p = primaryOf o in
+    let f = firstOf (s .kept) in
+    chosen (Earned c s) (eqb (b .stream) (p .stream)) _ _
+    (λ i.
+    let stream : f .stream ≡ s .header .stream = rw h (sym (same .stream) ∙ eqb-true _ _ i) in
+    chosen (Earned c s) (follows (b .function) (p .function)) _ _
+    (λ j. (w, record { stream = stream; function = rw h (sym (same .function) ∙ eqb-true _ _ j) }))
+    (λ j. chosen (Earned c s) (eqb (b .function) 0) _ _
+    (λ k. (w, record { stream = stream; function = sym (same .function) ∙ eqb-true _ _ k }))
+    (λ k. (w, λ a. eqb-false _ _ j (rw h at (same .function ∙ a .function)), λ d. eqb-false _ _ k (same .function ∙ d .function)))))
+    (λ i. (w, λ a. eqb-false _ _ i (rw h at (same .stream ∙ a .stream)), λ d. eqb-false _ _ i (rw h at (same .stream ∙ d .stream))))
+
+-- two blocks of one message say the same of it
+same-reply : (a b : Header) (n : ℕ) → SameElse a b → replyOf a n ≡ replyOf b n
+same-reply a b n e = rw (e .w, e .stream, e .function)
+
+-- what becomes of it, whatever its fate
+met :
+    (c : Terms) (o : Own) (s : Seen) (b : Header) (size : ℕ) → Joins c (o .header) s b → ownKept o .length ≡ s .bytes
+    → Good c (meet (replied o b size) (answered (answerBy (fateOf b (ownKept o .length) size)) s b size))
+unfolding replied ended
+met c o s b size j e =
+    let broken : Ended c (answered onlooker.spoilt s b size) Broken noReply =
+    record {
+      earned = (record { acked = j .asked .acked; wanted = j .asked .wanted }, j .not-yet, inl refl);
+      room = omega arith;
+      counted = never;
+    } in
+    rw e
+    (by-fate b (s .bytes) size (λ f. Good c (meet (repliedBy o b f) (answered (answerBy f) s b size)))
+    (λ lacks. broken)
+    (λ has long. broken)
+    (λ has last fits.
+    record {
+      earned =
+          verdict-earned c o (answered onlooker.kept s b size) b (j .header) (j .same)
+          (record { asked = record { acked = j .asked .acked; wanted = j .asked .wanted }; whole = j .last last });
+      room = fits;
+      counted = λ z. refl;
+    })
+    (λ has more fits some.
+    record {
+      asked = record { acked = j .asked .acked; wanted = j .asked .wanted };
+      header = j .header;
+      begun = j .more more;
+      number = omega (arith, j .number more, one-longer (s .kept) b);
+      routed = record { r = sym (j .same .r) ∙ j .routed .r; device = sym (j .same .device) ∙ j .routed .device };
+      system = sym (j .same .system) ∙ j .system;
+      reply = same-reply _ _ (s .bytes + size) (j .same);
+      unspoilt = j .unspoilt;
+      full = omega (arith, j .full, one-longer (s .kept) b);
+      room = fits;
+      quiet = refl;
+      within = omega arith;
+      late = omega (arith, j .late, mul-le-mul-right (c .t4 .0) some);
+    }))
+
+-- a block comes: it passes by, or it joins
+offered :
+    (c : Terms) (o : Own) (s : Seen) (b : Header) (size : ℕ) → Good c (meet o s) → ownKept o .length ≡ s .bytes
+    → (ownTakes o b ≡ true → Joins c (o .header) s b)
+    → Good c (meet (ownOffered o b size) (answered (answerTo o b size) s b size))
+unfolding ownOffered answerTo
+offered c o s b size g e joins =
+    either (ownTakes o b)
+    (λ t. Good c (meet (cond t (replied o b size) o) (answered (cond t (answerBy (fateOf b (ownKept o .length) size)) passed) s b size)))
+    (λ t. met c o s b size (joins t) e) (λ t. g)
+
+-- a block is the first of an awaited reply exactly if it begins one
+pub awaits-exactly : (h : List ℕ) (p : OwnStage) (s : Seen) (b : Header) → s .header ≡ headerOf h → awaits (placeAt h p) b ≡ true ↔ BeginsReply (s .header) b
+unfolding awaits
+awaits-exactly h p s b e = (
+  λ t.
+      let w = both (eqb (headerOf h .system) (b .system)) (beginsReply b) .0 t in
+      let r = reply-exactly b .0 (w .1) in
+      record { system = rw e (sym (eqb-true _ _ (w .0))); even = r .0; first = r .1 },
+  λ k.
+      let system : b .system ≡ headerOf h .system = rw e at (k .system) in
+      both (eqb (headerOf h .system) (b .system)) (beginsReply b) .1 (eq-eqb _ _ (sym system), reply-exactly b .1 (k .even, k .first)),
+)
+
+-- the first block of an awaited reply
+first-joins : (c : Terms) (h : List ℕ) (s : Seen) (timer : ℕ) (b : Header) → Waits c h s timer → Routed c b → awaits (placeAt h (Awaiting timer)) b ≡ true → Joins c h s b
+first-joins c h s timer b g q t =
+    let k = awaits-exactly h (Awaiting timer) s b (g .header) .0 t in
+    record {
+      asked = g .asked;
+      header = g .header;
+      unspoilt = g .unspoilt;
+      not-yet = rw (g .kept) none-not-whole;
+      routed = q;
+      system = rw (g .header) at (k .system);
+      same = rw (g .kept) (record { r = refl; device = refl; w = refl; stream = refl; function = refl; system = refl });
+      last = rw (g .kept) (whole-first b (number-first b (k .first)));
+      more = rw (g .kept) (λ e. begun-first b (number-one b (k .first) e) e);
+      number = rw (g .kept) (number-one b (k .first));
+      full = rw (g .kept) (omega arith);
+      late = omega (arith, g .since, g .within);
+    }
+
+-- a block goes on with what the place knows of a reply exactly if it goes on with the blocks kept, and has the request's device
+pub goes-on :
+    (c : Terms) (h : List ℕ) (s : Seen) (timer n : ℕ) (r : Reply) (b : Header) → Arrives c h s timer n r → Routed c b
+    → Continues (replyHeader (headerOf h) r) n b ↔ ((b .device ≡ headerOf h .device) × Continues (firstOf (s .kept)) (length (s .kept) + 1) b)
+goes-on c h s timer n r b g q =
+    let w = ap (λ r. r .w) (g .reply) in
+    let stream = ap (λ r. r .stream) (g .reply) in
+    let function = ap (λ r. r .function) (g .reply) in (
+      λ k. (
+        k .device,
+        record {
+          device = q .device ∙ sym (g .routed .device);
+          system = k .system ∙ sym (g .system);
+          w = k .w ∙ w;
+          stream = k .stream ∙ stream;
+          function = k .function ∙ function;
+          number = k .number ∙ g .number;
+        },
+      ),
+      λ k.
+          record {
+            device = k .0;
+            system = k .1 .system ∙ g .system;
+            w = k .1 .w ∙ sym w;
+            stream = k .1 .stream ∙ sym stream;
+            function = k .1 .function ∙ sym function;
+            number = k .1 .number ∙ sym (g .number);
+          },
+    )
+
+-- the next block of a reply that has begun
+next-joins :
+    (c : Terms) (h : List ℕ) (s : Seen) (timer n : ℕ) (r : Reply) (b : Header) → Arrives c h s timer n r → Routed c b
+    → continuesReply (placeAt h (Replying timer n r)) n r b ≡ true → Joins c h s b
+unfolding continuesReply
+next-joins c h s timer n r b g q t =
+    let k = goes-on c h s timer n r b g q .0 (continues (replyHeader (headerOf h) r) n b .0 t) .1 in
+    let same : SameElse b (firstOf (s .kept)) = same-else c _ _ b (g .routed) q k in
+    record {
+      asked = g .asked;
+      header = g .header;
+      unspoilt = g .unspoilt;
+      not-yet = begun-not-whole (s .kept) (g .begun);
+      routed = q;
+      system = k .system ∙ g .system;
+      same = rw (first-more (s .kept) b (g .begun .some)) same;
+      last = λ e. whole-more (s .kept) b (g .begun) (k .number) e same;
+      more = λ e. begun-more (s .kept) b (g .begun) (k .number) e same;
+      number = λ e. k .number;
+      full = g .full;
+      late = omega (arith, g .late, g .within);
+    }
+
+-- ---- a verdict that is earned stays earned
+
+-- the request is acknowledged or lost
+abbrev Over : Request → Type 0
+Over none = ⊥
+Over underway = ⊥
+Over onlooker.acknowledged = Unit {0}
+Over lost = Unit {0}
+
+-- where a reply was asked for, and where any verdict is earned
+over-asked : (s : Seen) → Asked s → Over (s .request)
+over-asked s a = rw (a .acked) tt
+
+over : (c : Terms) (s : Seen) (v : Verdict) → Earned c s v → Over (s .request)
+over c s Sent e = rw (e .0) tt
+over c s Answered e = over-asked s (e .0 .asked)
+over c s Declined e = over-asked s (e .0 .asked)
+over c s Other e = over-asked s (e .0 .asked)
+over c s Broken e = over-asked s (e .0)
+over c s NoReply e = over-asked s (e .0)
+over c s SendFailed e = rw e tt
+
+-- a request under way is not asked for again
+asked-underway : (q : Request) (s : Seen) (h : Header) → q ≡ underway → asked q s h ≡ s
+asked-underway q s h e = rw e
+
+-- one that is over is not asked for, acknowledged or lost again
+asked-over : (q : Request) (s : Seen) (h : Header) → Over q → asked q s h ≡ s
+asked-over none s h o = absurd o
+asked-over underway s h o = absurd o
+asked-over onlooker.acknowledged s h o = refl
+asked-over lost s h o = refl
+
+acked-over : (q : Request) (s : Seen) → Over q → acked q s ≡ s
+acked-over none s o = absurd o
+acked-over underway s o = absurd o
+acked-over onlooker.acknowledged s o = refl
+acked-over lost s o = refl
+
+gave-up-over : (q : Request) (s : Seen) → Over q → gaveUp q s ≡ s
+gave-up-over none s o = absurd o
+gave-up-over underway s o = absurd o
+gave-up-over onlooker.acknowledged s o = refl
+gave-up-over lost s o = refl
+
+-- 0.1 s later
+abbrev later : Seen → Seen
+later s =
+    record { request = s .request; header = s .header; kept = s .kept; bytes = s .bytes; spoilt = s .spoilt; since = s .since + 1; quiet = s .quiet + 1 }
+
+-- what time does not change
+asked-later : (s : Seen) → Asked s → Asked (later s)
+asked-later s a = record { acked = a .acked; wanted = a .wanted }
+
+complete-later : (s : Seen) → Complete s → Complete (later s)
+complete-later s w = record { asked = asked-later s (w .asked); whole = w .whole }
+
+earned-later : (c : Terms) (s : Seen) (v : Verdict) → Earned c s v → Earned c (later s) v
+earned-later c s Sent e = e
+earned-later c s Answered e = (complete-later s (e .0), e .1)
+earned-later c s Declined e = (complete-later s (e .0), e .1)
+earned-later c s Other e = (complete-later s (e .0), e .1, e .2)
+earned-later c s Broken e = (asked-later s (e .0), e .1, ⊎-elim inl (λ w. inr (w .0, omega arith)) (e .2))
+earned-later c s NoReply e = (asked-later s (e .0), e .1, e .2, omega arith)
+earned-later c s SendFailed e = e
+
+-- ---- one event
+
+free-step : (c : Terms) (h : List ℕ) (s : Seen) (e : Event c) → s .request ≡ none → After c h Free s e
+unfolding ownOffered answerTo
+free-step c h s (claim x) g = rw g (record { request = refl; header = refl })
+free-step c h s sent g = rw g
+free-step c h s failed g = rw g
+free-step c h s tick g = g
+free-step c h s release g = g
+free-step c h s (block b size q) g = g
+
+sending-step : (c : Terms) (h : List ℕ) (s : Seen) (e : Event c) → Leaves h s → After c h Sending s e
+unfolding ownOffered answerTo acknowledged ended
+sending-step c h s (claim x) g = rw (asked-underway (s .request) s (headerOf x) (g .request)) g
+sending-step c h s sent g =
+    rw (g .request)
+    (chosen (λ o. Good c (meet o (acked underway s))) (headerOf h .w) _ _
+    (λ w. record {
+      asked = record { acked = refl; wanted = rw (g .header) w };
+      header = g .header;
+      kept = refl;
+      bytes = refl;
+      unspoilt = refl;
+      since = refl;
+      within = omega arith;
+    })
+    (λ w. record { earned = (refl, rw (g .header) w); room = omega arith; counted = never }))
+sending-step c h s failed g = rw (g .request) (record { earned = refl; room = omega arith; counted = never })
+sending-step c h s tick g = record { request = g .request; header = g .header }
+sending-step c h s release g = g
+sending-step c h s (block b size q) g = g
+
+awaiting-step : (c : Terms) (h : List ℕ) (timer : ℕ) (s : Seen) (e : Event c) → Waits c h s timer → After c h (Awaiting timer) s e
+unfolding awaitTick ended
+awaiting-step c h timer s (claim x) g = rw (asked-over (s .request) s (headerOf x) (over-asked s (g .asked))) g
+awaiting-step c h timer s sent g = rw (acked-over (s .request) s (over-asked s (g .asked))) g
+awaiting-step c h timer s failed g = rw (gave-up-over (s .request) s (over-asked s (g .asked))) g
+awaiting-step c h timer s tick g =
+    let a = asked-later s (g .asked) in
+    by-timer _ timer (λ t. Good c (meet (awaitedBy (placeAt h (Awaiting timer)) t) (later s)))
+    (λ out. record { earned = (a, g .kept, g .unspoilt, omega (arith, g .since)); room = omega arith; counted = never })
+    (λ on. record {
+      asked = a;
+      header = g .header;
+      kept = g .kept;
+      bytes = g .bytes;
+      unspoilt = g .unspoilt;
+      since = omega (arith, g .since);
+      within = omega arith;
+    })
+awaiting-step c h timer s release g = g
+awaiting-step c h timer s (block b size q) g = offered c (placeAt h (Awaiting timer)) s b size g (sym (g .bytes)) (λ t. first-joins c h s timer b g q t)
+
+replying-step :
+    (c : Terms) (h : List ℕ) (timer n : ℕ) (r : Reply) (s : Seen) (e : Event c) → Arrives c h s timer n r → After c h (Replying timer n r) s e
+unfolding replyTick ended
+replying-step c h timer n r s (claim x) g = rw (asked-over (s .request) s (headerOf x) (over-asked s (g .asked))) g
+replying-step c h timer n r s sent g = rw (acked-over (s .request) s (over-asked s (g .asked))) g
+replying-step c h timer n r s failed g = rw (gave-up-over (s .request) s (over-asked s (g .asked))) g
+replying-step c h timer n r s tick g =
+    let a = asked-later s (g .asked) in
+    by-timer _ timer (λ t. Good c (meet (replyingBy (placeAt h (Replying timer n r)) n r t) (later s)))
+    (λ out.
+    record {
+      earned = (a, begun-not-whole (s .kept) (g .begun), inr (g .begun .some, omega (arith, g .quiet)));
+      room = omega arith;
+      counted = never;
+    })
+    (λ on. record {
+      asked = a;
+      header = g .header;
+      begun = g .begun;
+      number = g .number;
+      routed = g .routed;
+      system = g .system;
+      reply = g .reply;
+      unspoilt = g .unspoilt;
+      full = g .full;
+      room = g .room;
+      quiet = omega (arith, g .quiet);
+      within = omega arith;
+      late = omega (arith, g .late);
+    })
+replying-step c h timer n r s release g = g
+replying-step c h timer n r s (block b size q) g =
+    offered c (placeAt h (Replying timer n r)) s b size g (ap (λ r. r .length) (g .reply)) (λ t. next-joins c h s timer n r b g q t)
+
+done-step : (c : Terms) (h : List ℕ) (v : Verdict) (r : Reply) (s : Seen) (e : Event c) → Ended c s v r → After c h (Done v r) s e
+unfolding ownOffered answerTo
+done-step c h v r s (claim x) g = rw (asked-over (s .request) s (headerOf x) (over c s v (g .earned))) g
+done-step c h v r s sent g = rw (acked-over (s .request) s (over c s v (g .earned))) g
+done-step c h v r s failed g = rw (gave-up-over (s .request) s (over c s v (g .earned))) g
+done-step c h v r s tick g = record { earned = earned-later c s v (g .earned); room = g .room; counted = g .counted }
+done-step c h v r s release g = refl
+done-step c h v r s (block b size q) g = g
+
+-- whatever event comes
+pub step : (c : Terms) (h : List ℕ) (p : OwnStage) (s : Seen) (e : Event c) → At c p h s → After c h p s e
+step c h Free s e g = free-step c h s e g
+step c h Sending s e g = sending-step c h s e g
+step c h (Awaiting timer) s e g = awaiting-step c h timer s e g
+step c h (Replying timer n r) s e g = replying-step c h timer n r s e g
+step c h (Done v r) s e g = done-step c h v r s e g

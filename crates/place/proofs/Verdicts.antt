@@ -1,0 +1,233 @@
+-- Each verdict exactly when it is earned, and one verdict until it is released. Assumes nothing.
+use Prim.Native.Nat.{ℕ, _+_, _≤_, _<_}
+use mathlib.Core.Path.{_≡_, refl, sym, ap, subst, _∙_}
+use mathlib.Core.Bool.{Bool, true, false, cond, false≢true}
+use mathlib.Core.List.{List}
+use mathlib.Core.Logic.{_↔_, ⊎-elim}
+use native.Mathlib.Omega.{arith}
+use lib.Dec.{eqb, ltb}
+use lib.ListN.{length}
+use borrow.Author.Tests.{eqb-true, eq-eqb, ne-eqb, lt-ltb, le-ltb}
+use Rattle.wire.proofs.Choice.{either, chosen}
+use Rattle.header.specs.declared.header.Header.{Header}
+use Rattle.settings.specs.declared.terms.Terms.{Terms}
+use Rattle.place.specs.Message.{firstOf, Whole}
+use Rattle.place.specs.Own.{standingAt, keptAt, ownOffered}
+use Rattle.place.specs.OwnHistory.{Event, claim, sent, failed, tick, release, block, Request, none, underway, acknowledged, lost, Seen, step, run}
+use Rattle.place.specs.OwnTheorems.{Answers, Declines, Asked, Complete, Breaks, Earned, VerdictExactly, FreeExactly, LengthShown, OneVerdict, spares, Spared, no-more, one-more}
+use Rattle.place.proofs.Messages.{none-not-whole, begun-not-whole}
+use Rattle.place.proofs.OwnInvariant.{At, onReply, placeAt, is-acked, HasVerdict}
+use Rattle.place.proofs.OwnAlways.{always}
+use Rattle.place.specs.declared.verdict.Verdict.{Verdict}
+use Rattle.place.specs.declared.verdict.Verdict.the-variants.{Sent, Answered, Declined, Other, Broken, NoReply, SendFailed}
+use Rattle.place.specs.declared.verdict.Standing.{Standing}
+use Rattle.place.specs.declared.verdict.Standing.the-variants as standing
+use Rattle.place.specs.declared.own.Reply.{Reply}
+use Rattle.place.specs.declared.own.OwnStage.{OwnStage}
+use Rattle.place.specs.declared.own.OwnStage.the-variants.{Free, Sending, Awaiting, Replying, Done}
+use Rattle.place.specs.declared.own.Own.{Own}
+
+-- ---- what a place shows is so
+
+-- what each standing says of the history
+abbrev Means : Terms → Seen → Standing → Type 0
+Means c s standing.Free = s .request ≡ none
+Means c s standing.Open = Unit {0}
+Means c s (standing.Given v) = Earned c s v
+
+-- and it is so at each stage
+means : (c : Terms) (p : OwnStage) (h : List ℕ) (s : Seen) → At c p h s → Means c s (standingAt p)
+means c Free h s g = g
+means c Sending h s g = tt
+means c (Awaiting timer) h s g = tt
+means c (Replying timer next r) h s g = tt
+means c (Done v r) h s g = g .earned
+
+-- ---- what is so, the place shows
+
+-- whether a place at this stage has seen a whole reply
+abbrev wholeAt : OwnStage → Bool
+wholeAt Free = false
+wholeAt Sending = false
+wholeAt (Awaiting timer) = false
+wholeAt (Replying timer next r) = false
+wholeAt (Done v r) = onReply v
+
+-- a reply that was asked for is whole exactly if t
+abbrev Tells : Seen → Bool → Type 0
+Tells s t = Asked s → t ≡ true ↔ Whole (s .kept)
+
+-- a test that is not true is false
+no-test : (t : Bool) → (t ≡ true → ⊥) → t ≡ false
+no-test t n = either t (λ x. x ≡ false) (λ e. absurd (n e)) (λ e. refl)
+
+-- where it is whole, and where it is not
+yes-whole : (s : Seen) → Whole (s .kept) → true ≡ true ↔ Whole (s .kept)
+yes-whole s w = (λ e. w, λ x. refl)
+
+not-whole : (s : Seen) → (Whole (s .kept) → ⊥) → false ≡ true ↔ Whole (s .kept)
+not-whole s n = (λ e. absurd (false≢true e), λ w. absurd (n w))
+
+-- each verdict that is earned says whether the reply is whole
+tells-earned : (c : Terms) (s : Seen) (v : Verdict) → Earned c s v → Tells s (onReply v)
+tells-earned c s Sent e a = absurd (false≢true (sym (e .1) ∙ a .wanted))
+tells-earned c s Answered e a = yes-whole s (e .0 .whole)
+tells-earned c s Declined e a = yes-whole s (e .0 .whole)
+tells-earned c s Other e a = yes-whole s (e .0 .whole)
+tells-earned c s Broken e a = not-whole s (e .1)
+tells-earned c s NoReply e a = not-whole s (rw (e .1) none-not-whole)
+tells-earned c s SendFailed e a = absurd (is-acked _ _ e (a .acked))
+
+-- and so does each stage
+tells : (c : Terms) (p : OwnStage) (h : List ℕ) (s : Seen) → At c p h s → Tells s (wholeAt p)
+tells c Free h s g a = absurd (is-acked _ _ g (a .acked))
+tells c Sending h s g a = absurd (is-acked _ _ (g .request) (a .acked))
+tells c (Awaiting timer) h s g a = not-whole s (rw (g .kept) none-not-whole)
+tells c (Replying timer next r) h s g a = not-whole s (begun-not-whole (s .kept) (g .begun))
+tells c (Done v r) h s g a = tells-earned c s v (g .earned) a
+
+-- What should be shown, from the history alone. A whole reply decides by its header:
+abbrev byReply : Header → Header → Verdict
+byReply request reply =
+    cond (eqb (reply .stream) (request .stream))
+    (cond (eqb (reply .function) (request .function + 1)) Answered (cond (eqb (reply .function) 0) Declined Other))
+    Other
+
+-- one that is not whole, by what broke it and by time
+abbrev byTime : Terms → Seen → Standing
+byTime c s =
+    cond (s .spoilt) (standing.Given Broken)
+    (cond (eqb (length (s .kept)) 0)
+    (cond (ltb (c .t3 .0) (s .since)) (standing.Given NoReply) standing.Open)
+    (cond (ltb (c .t4 .0) (s .quiet)) (standing.Given Broken) standing.Open))
+
+-- `whole` says whether it is
+abbrev shown : Terms → Seen → Bool → Request → Standing
+shown c s whole none = standing.Free
+shown c s whole underway = standing.Open
+shown c s whole acknowledged =
+    cond (s .header .w) (cond whole (standing.Given (byReply (s .header) (firstOf (s .kept)))) (byTime c s)) (standing.Given Sent)
+shown c s whole lost = standing.Given SendFailed
+
+-- a header decides as it should
+by-answers : (p f : Header) → Answers p f → byReply p f ≡ Answered
+by-answers p f a = simp (eq-eqb _ _ (a .stream), eq-eqb _ _ (a .function))
+
+by-declines : (p f : Header) → Declines p f → byReply p f ≡ Declined
+by-declines p f d = simp (eq-eqb _ _ (d .stream), ne-eqb (f .function) (p .function + 1) (omega (arith, d .function)), eq-eqb _ _ (d .function))
+
+by-other : (p f : Header) → (Answers p f → ⊥) → (Declines p f → ⊥) → byReply p f ≡ Other
+by-other p f not-2 not-3 =
+    chosen (λ v. v ≡ Other) (eqb (f .stream) (p .stream)) _ _
+    (λ i.
+    let stream = eqb-true _ _ i in
+    simp (
+      ne-eqb (f .function) (p .function + 1) (λ j. not-2 (record { stream = stream; function = j })),
+      ne-eqb (f .function) 0 (λ j. not-3 (record { stream = stream; function = j })),
+    ))
+    (λ i. refl)
+
+-- what breaks a reply, but for a block that did
+behind : (c : Terms) (s : Seen) → Breaks c s → s .spoilt ≡ false → (1 ≤ length (s .kept)) × (c .t4 .0 < s .quiet)
+behind c s b e = ⊎-elim (λ i. absurd (false≢true (sym e ∙ i))) (λ w. w) b
+
+-- where a reply was asked for, its blocks and the time decide
+if-whole : (c : Terms) (s : Seen) (t : Bool) → Tells s t → Complete s → shown c s t (s .request) ≡ standing.Given (byReply (s .header) (firstOf (s .kept)))
+if-whole c s t w k = simp (k .asked .acked, k .asked .wanted, w (k .asked) .1 (k .whole))
+
+if-not-whole : (c : Terms) (s : Seen) (t : Bool) → Tells s t → Asked s → (Whole (s .kept) → ⊥) → shown c s t (s .request) ≡ byTime c s
+if-not-whole c s t w a n = simp (a .acked, a .wanted, no-test t (λ e. n (w a .0 e)))
+
+-- a verdict that is earned is the one that should be shown
+earned-shown : (c : Terms) (s : Seen) (t : Bool) → Tells s t → (v : Verdict) → Earned c s v → shown c s t (s .request) ≡ standing.Given v
+earned-shown c s t w Sent e = simp (e .0, e .1)
+earned-shown c s t w Answered e = if-whole c s t w (e .0) ∙ ap standing.Given (by-answers _ _ (e .1))
+earned-shown c s t w Declined e = if-whole c s t w (e .0) ∙ ap standing.Given (by-declines _ _ (e .1))
+earned-shown c s t w Other e = if-whole c s t w (e .0) ∙ ap standing.Given (by-other _ _ (e .1) (e .2))
+earned-shown c s t w Broken e =
+    if-not-whole c s t w (e .0) (e .1)
+    ∙ chosen (λ x. x ≡ standing.Given Broken) (s .spoilt) _ _ (λ i. refl)
+    (λ i.
+    let late = behind c s (e .2) i in
+    simp (ne-eqb (length (s .kept)) 0 (omega (arith, late .0)), lt-ltb _ _ (late .1)))
+earned-shown c s t w NoReply e =
+    if-not-whole c s t w (e .0) (rw (e .1) none-not-whole) ∙ simp (e .2, e .1, lt-ltb _ _ (e .3))
+earned-shown c s t w SendFailed e = simp e
+
+-- each stage shows what should be shown
+stage-shown : (c : Terms) (p : OwnStage) (h : List ℕ) (s : Seen) → At c p h s → shown c s (wholeAt p) (s .request) ≡ standingAt p
+stage-shown c Free h s g = simp g
+stage-shown c Sending h s g = simp (g .request)
+stage-shown c (Awaiting timer) h s g =
+    simp (g .asked .acked, g .asked .wanted, g .unspoilt, g .kept, le-ltb (c .t3 .0) (s .since) (omega (arith, g .since, g .within)))
+stage-shown c (Replying timer next r) h s g =
+    simp (
+      g .asked .acked,
+      g .asked .wanted,
+      g .unspoilt,
+      ne-eqb (length (s .kept)) 0 (omega (arith, g .begun .some)),
+      le-ltb (c .t4 .0) (s .quiet) (omega (arith, g .quiet, g .within)),
+    )
+stage-shown c (Done v r) h s g = earned-shown c s (onReply v) (tells-earned c s v (g .earned)) v (g .earned)
+
+-- ---- each verdict exactly when
+
+pub verdict-exactly : VerdictExactly
+verdict-exactly c t w v =
+    let g = always c t w in
+    let p = t .own .stage in
+    let h = t .own .header in
+    let s = t .seen in
+    (λ e. subst (Means c s) e (means c p h s g), λ e. sym (stage-shown c p h s g) ∙ earned-shown c s (wholeAt p) (tells c p h s g) v e)
+
+pub free-exactly : FreeExactly
+free-exactly c t w =
+    let g = always c t w in
+    let p = t .own .stage in
+    let h = t .own .header in
+    let s = t .seen in
+    (λ e. subst (Means c s) e (means c p h s g), λ e. sym (stage-shown c p h s g) ∙ ap (shown c s (wholeAt p)) e)
+
+-- ---- the length shown
+
+-- a place that has seen a whole reply has its length
+counted : (c : Terms) (p : OwnStage) (h : List ℕ) (s : Seen) → At c p h s → wholeAt p ≡ true → keptAt p .length ≡ s .bytes
+counted c Free h s g w = absurd (false≢true w)
+counted c Sending h s g w = absurd (false≢true w)
+counted c (Awaiting timer) h s g w = absurd (false≢true w)
+counted c (Replying timer next r) h s g w = absurd (false≢true w)
+counted c (Done v r) h s g w = g .counted w
+
+pub length-shown : LengthShown
+length-shown c t w k =
+    let g = always c t w in
+    counted c (t .own .stage) (t .own .header) (t .seen) g (tells c (t .own .stage) (t .own .header) (t .seen) g (k .asked) .1 (k .whole))
+
+-- ---- one verdict
+
+-- a place with a verdict stays as it is through any event but a release
+done-stays : (c : Terms) (h : List ℕ) (v : Verdict) (r : Reply) (e : Event c) → spares e ≡ true → step (placeAt h (Done v r)) e ≡ placeAt h (Done v r)
+unfolding ownOffered
+done-stays c h v r (claim x) q = refl
+done-stays c h v r sent q = refl
+done-stays c h v r failed q = refl
+done-stays c h v r tick q = refl
+done-stays c h v r release q = absurd (false≢true q)
+done-stays c h v r (block b size p) q = refl
+
+-- and through any such events
+done-runs : (c : Terms) (h : List ℕ) (v : Verdict) (r : Reply) (es : List (Event c)) → Spared es → run (placeAt h (Done v r)) es ≡ placeAt h (Done v r)
+unfolding run
+done-runs c h v r es no-more = refl
+done-runs c h v r es (one-more {e} {es = rest} q k) = ap (λ (o : Own). run o rest) (done-stays c h v r e q) ∙ done-runs c h v r rest k
+
+-- whatever its verdict
+runs : (c : Terms) (h : List ℕ) (p : OwnStage) → HasVerdict (standingAt p) → (es : List (Event c)) → Spared es → run (placeAt h p) es ≡ placeAt h p
+runs c h Free g es k = absurd g
+runs c h Sending g es k = absurd g
+runs c h (Awaiting timer) g es k = absurd g
+runs c h (Replying timer next r) g es k = absurd g
+runs c h (Done v r) g es k = done-runs c h v r es k
+
+pub one-verdict : OneVerdict
+one-verdict c t w v e es k = runs c (t .own .header) (t .own .stage) (subst HasVerdict (sym e) tt) es k

@@ -1,0 +1,19 @@
+-- `place::Own::standing` meets its contract. Assumes nothing.
+use borrow.Author.Needs.{needs}
+use Rattle.place.proofs.own.Own.standing.Statement.{statement}
+use Rattle.place.proofs.own.Own.standing.Tie as tie
+
+pub standing-spec : {M : Type 1} → statement M
+standing-spec =
+    tie.close
+    (tie.spec
+    (λ c. search needs)
+    (λ c. search needs)
+    (λ c. search needs)
+    (λ c. search needs)
+    (λ c. search needs)
+    (λ c. simp (c .enum-told .given .1))
+    (λ c. simp (c .enum-told2 .given .1))
+    (λ c. simp (c .enum-told3 .given .1))
+    (λ c. simp (c .enum-told4 .given .1))
+    (λ c. simp (c .before .stage .given .1)))

@@ -1,0 +1,21 @@
+-- `place::Own::tick` meets its contract. Assumes nothing.
+use borrow.Author.Needs.{needs}
+use Rattle.place.proofs.own.Own.tick.Statement.{statement}
+use Rattle.place.proofs.own.Own.tick.Tie as tie
+
+pub tick-spec : {M : Type 1} → statement M
+tick-spec =
+    tie.close
+    (tie.spec
+    (λ c. search needs)
+    (λ c. search needs)
+    (λ c. search needs)
+    (λ c κs. search needs)
+    (λ c. search needs)
+    (λ c κs. search needs)
+    (λ c. search needs)
+    (λ c. simp (c .enum-told .given .1))
+    (λ c. simp (c .enum-told2 .given .1))
+    (λ c. simp (c .before .before .stage .given .1) (c .await-tick .ensures))
+    (λ c. simp (c .before .before .stage2 .given .1) (c .reply-tick .ensures))
+    (λ c. simp (c .enum-told3 .given .1)))

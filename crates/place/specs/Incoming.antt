@@ -1,0 +1,194 @@
+-- The life of a place of a message of the far end (E4 7.4; 01, "Messages").
+use Prim.Native.Nat.{ℕ, _+_}
+use mathlib.Core.Bool.{Bool, true, false, cond}
+use mathlib.Core.List.{List}
+use lib.ListN.{replicate}
+use Rattle.header.specs.Header.{headerOf}
+use Rattle.header.specs.declared.header.Header.{Header}
+use Rattle.settings.specs.Timer.{ticked}
+use Rattle.settings.specs.declared.terms.Terms.{Terms}
+use Rattle.settings.specs.declared.timer.Timer.{Timer}
+use Rattle.settings.specs.declared.timer.Timer.the-variants.{RunsOut, Runs}
+use Rattle.place.specs.Fate.{continuesOf, fateOf}
+use Rattle.place.specs.declared.fate.Fate.{Fate}
+use Rattle.place.specs.declared.fate.Fate.the-variants.{Empty, TooLong, Last, More}
+use Rattle.place.specs.declared.incoming.End.{End}
+use Rattle.place.specs.declared.incoming.End.the-variants as end
+use Rattle.place.specs.declared.incoming.IncomingStage.{IncomingStage}
+use Rattle.place.specs.declared.incoming.IncomingStage.the-variants.{Free, Open, Complete, Replying, Replied}
+use Rattle.place.specs.declared.incoming.Incoming.{Incoming}
+
+abbrev pub freshIncoming : Incoming
+freshIncoming = record { header = replicate 10 0; stage = Free }
+
+abbrev pub stageAt : Incoming → IncomingStage → Incoming
+stageAt i s = record { header = i .header; stage = s }
+
+-- what the header of its first block says
+abbrev pub primaryOf : Incoming → Header
+primaryOf i = headerOf (i .header)
+
+-- how many data bytes are kept
+abbrev pub lengthAt : IncomingStage → ℕ
+lengthAt Free = 0
+lengthAt (Open timer next n) = n
+lengthAt (Complete n) = n
+lengthAt (Replying n) = n
+lengthAt (Replied n e) = n
+
+abbrev pub incomingLength : Incoming → ℕ
+incomingLength i = lengthAt (i .stage)
+
+abbrev pub freeAt : IncomingStage → Bool
+freeAt Free = true
+freeAt (Open timer next n) = false
+freeAt (Complete n) = false
+freeAt (Replying n) = false
+freeAt (Replied n e) = false
+
+abbrev pub incomingIsFree : Incoming → Bool
+incomingIsFree i = freeAt (i .stage)
+
+-- "open (not yet complete)"
+abbrev pub openAt : IncomingStage → Bool
+openAt Free = false
+openAt (Open timer next n) = true
+openAt (Complete n) = false
+openAt (Replying n) = false
+openAt (Replied n e) = false
+
+abbrev pub incomingIsOpen : Incoming → Bool
+incomingIsOpen i = openAt (i .stage)
+
+-- complete, and no reply to it was accepted
+abbrev pub completeAt : IncomingStage → Bool
+completeAt Free = false
+completeAt (Open timer next n) = false
+completeAt (Complete n) = true
+completeAt (Replying n) = false
+completeAt (Replied n e) = false
+
+abbrev pub incomingIsComplete : Incoming → Bool
+incomingIsComplete i = completeAt (i .stage)
+
+-- our reply to it has ended
+abbrev pub repliedAt : IncomingStage → Bool
+repliedAt Free = false
+repliedAt (Open timer next n) = false
+repliedAt (Complete n) = false
+repliedAt (Replying n) = false
+repliedAt (Replied n e) = true
+
+abbrev pub incomingIsReplied : Incoming → Bool
+incomingIsReplied i = repliedAt (i .stage)
+
+-- ---- a primary begins
+
+-- "A primary not yet open takes no place."
+abbrev pub begunBy : Incoming → List ℕ → ℕ → Fate → Incoming
+begunBy i h number Empty = i
+begunBy i h number TooLong = i
+begunBy i h number (Last n) = record { header = h; stage = Complete n }
+begunBy i h number (More n) = record { header = h; stage = Open 0 (number + 1) n }
+
+unfoldable pub begins : Incoming → List ℕ → ℕ → Incoming
+begins i h size = begunBy i h (headerOf h .number) (fateOf (headerOf h) 0 size)
+
+-- in a free place, or instead of an open message: "throws that one out and takes its place"
+abbrev pub begunAt : IncomingStage → Incoming → List ℕ → ℕ → Incoming
+begunAt Free i h size = begins i h size
+begunAt (Open timer next n) i h size = begins i h size
+begunAt (Complete n) i h size = i
+begunAt (Replying n) i h size = i
+begunAt (Replied n e) i h size = i
+
+abbrev pub incomingBegun : Incoming → List ℕ → ℕ → Incoming
+incomingBegun i h size = begunAt (i .stage) i h size
+
+-- ---- time
+
+-- "T4 beyond its limit breaks the message. A broken incoming message frees its place."
+abbrev pub openBy : Incoming → ℕ → ℕ → Timer → Incoming
+openBy i next n RunsOut = stageAt i Free
+openBy i next n (Runs timer) = stageAt i (Open timer next n)
+
+unfoldable pub openTick : Terms → Incoming → ℕ → ℕ → ℕ → Incoming
+openTick c i timer next n = openBy i next n (ticked (c .t4) timer)
+
+abbrev pub tickAt : Terms → IncomingStage → Incoming → Incoming
+tickAt c Free i = i
+tickAt c (Open timer next n) i = openTick c i timer next n
+tickAt c (Complete n) i = i
+tickAt c (Replying n) i = i
+tickAt c (Replied n e) i = i
+
+abbrev pub incomingTick : Terms → Incoming → Incoming
+incomingTick c i = tickAt c (i .stage) i
+
+-- ---- its further blocks
+
+-- "Continues an open message"
+unfoldable pub continuesHere : Incoming → ℕ → Header → Bool
+continuesHere i next h = continuesOf (primaryOf i) next h
+
+abbrev pub takesAt : IncomingStage → Incoming → Header → Bool
+takesAt Free i h = false
+takesAt (Open timer next n) i h = continuesHere i next h
+takesAt (Complete n) i h = false
+takesAt (Replying n) i h = false
+takesAt (Replied n e) i h = false
+
+abbrev pub incomingTakes : Incoming → Header → Bool
+incomingTakes i h = takesAt (i .stage) i h
+
+-- 4 and 5: "An open message .. ends broken."; 7: "With E = 0, T4 restarts."
+abbrev pub keptBy : Incoming → ℕ → Fate → Incoming
+keptBy i number Empty = stageAt i Free
+keptBy i number TooLong = stageAt i Free
+keptBy i number (Last n) = stageAt i (Complete n)
+keptBy i number (More n) = stageAt i (Open 0 (number + 1) n)
+
+unfoldable pub goesOn : Incoming → Header → ℕ → Incoming
+goesOn i h size = keptBy i (h .number) (fateOf h (incomingLength i) size)
+
+-- a block that is for this place is of its message; any other leaves it as it is
+unfoldable pub incomingOffered : Incoming → Header → ℕ → Incoming
+incomingOffered i h size = cond (incomingTakes i h) (goesOn i h size) i
+
+-- ---- our reply
+
+abbrev pub answeredAt : IncomingStage → Incoming → Incoming
+answeredAt Free i = i
+answeredAt (Open timer next n) i = i
+answeredAt (Complete n) i = stageAt i (Replying n)
+answeredAt (Replying n) i = i
+answeredAt (Replied n e) i = i
+
+abbrev pub incomingAnswered : Incoming → Incoming
+incomingAnswered i = answeredAt (i .stage) i
+
+-- "A reply of ours ends sent or failed in its incoming place."
+abbrev pub endedAt : End → IncomingStage → Incoming → Incoming
+endedAt e Free i = i
+endedAt e (Open timer next n) i = i
+endedAt e (Complete n) i = i
+endedAt e (Replying n) i = stageAt i (Replied n e)
+endedAt e (Replied n f) i = i
+
+abbrev pub incomingSent : Incoming → Incoming
+incomingSent i = endedAt end.Sent (i .stage) i
+
+abbrev pub incomingFailed : Incoming → Incoming
+incomingFailed i = endedAt end.Failed (i .stage) i
+
+-- ---- the end
+
+abbrev pub releasedAt : IncomingStage → Incoming → Incoming
+releasedAt Free i = i
+releasedAt (Open timer next n) i = i
+releasedAt (Complete n) i = stageAt i Free
+releasedAt (Replying n) i = i
+releasedAt (Replied n e) i = stageAt i Free
+
+abbrev pub incomingReleased : Incoming → Incoming
+incomingReleased i = releasedAt (i .stage) i

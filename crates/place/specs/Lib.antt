@@ -1,0 +1,11 @@
+pub mod Fate
+pub mod Verdict
+pub mod Own
+pub mod Incoming
+pub mod Range
+pub mod Message
+pub mod Judging
+pub mod OwnHistory
+pub mod OwnTheorems
+pub mod IncomingHistory
+pub mod IncomingTheorems

@@ -1,0 +1,219 @@
+-- The life of a place of an own transaction (E4 7.3; 01, "Messages").
+use Prim.Native.Nat.{ℕ, _+_}
+use mathlib.Core.Bool.{Bool, true, false, cond, _&&_}
+use mathlib.Core.List.{List}
+use lib.Dec.{eqb}
+use lib.ListN.{replicate}
+use Rattle.header.specs.Header.{headerOf}
+use Rattle.header.specs.declared.header.Header.{Header}
+use Rattle.settings.specs.Timer.{ticked}
+use Rattle.settings.specs.declared.terms.Terms.{Terms}
+use Rattle.settings.specs.declared.timer.Timer.{Timer}
+use Rattle.settings.specs.declared.timer.Timer.the-variants.{RunsOut, Runs}
+use Rattle.place.specs.Fate.{beginsReply, continuesOf, fateOf}
+use Rattle.place.specs.declared.fate.Fate.{Fate}
+use Rattle.place.specs.declared.fate.Fate.the-variants.{Empty, TooLong, Last, More}
+use Rattle.place.specs.declared.verdict.Verdict.{Verdict}
+use Rattle.place.specs.declared.verdict.Verdict.the-variants.{Sent, Answered, Declined, Other, Broken, NoReply, SendFailed}
+use Rattle.place.specs.declared.verdict.Standing.{Standing}
+use Rattle.place.specs.declared.verdict.Standing.the-variants as standing
+use Rattle.place.specs.declared.own.Reply.{Reply}
+use Rattle.place.specs.declared.own.OwnStage.{OwnStage}
+use Rattle.place.specs.declared.own.OwnStage.the-variants.{Free, Sending, Awaiting, Replying, Done}
+use Rattle.place.specs.declared.own.Own.{Own}
+
+abbrev pub freshOwn : Own
+freshOwn = record { header = replicate 10 0; stage = Free }
+
+abbrev pub stageAt : Own → OwnStage → Own
+stageAt o s = record { header = o .header; stage = s }
+
+-- what the primary's header says
+abbrev pub primaryOf : Own → Header
+primaryOf o = headerOf (o .header)
+
+abbrev pub noReply : Reply
+noReply = record { w = false; stream = 0; function = 0; length = 0 }
+
+abbrev pub replyOf : Header → ℕ → Reply
+replyOf h n = record { w = h .w; stream = h .stream; function = h .function; length = n }
+
+-- what all blocks of a reply to this primary share
+abbrev pub replyHeader : Header → Reply → Header
+replyHeader p r = record {
+  r = p .r;
+  device = p .device;
+  w = r .w;
+  stream = r .stream;
+  function = r .function;
+  e = false;
+  number = 0;
+  system = p .system;
+}
+
+-- a verdict, and no reply of which bytes are kept
+unfoldable pub ended : Own → Verdict → Own
+ended o v = stageAt o (Done v noReply)
+
+-- ---- what a user reads
+
+-- free; "0 open"; or its verdict
+abbrev pub standingAt : OwnStage → Standing
+standingAt Free = standing.Free
+standingAt Sending = standing.Open
+standingAt (Awaiting timer) = standing.Open
+standingAt (Replying timer next r) = standing.Open
+standingAt (Done v r) = standing.Given v
+
+abbrev pub ownStanding : Own → Standing
+ownStanding o = standingAt (o .stage)
+
+abbrev pub freeBy : Standing → Bool
+freeBy standing.Free = true
+freeBy standing.Open = false
+freeBy (standing.Given v) = false
+
+abbrev pub ownIsFree : Own → Bool
+ownIsFree o = freeBy (ownStanding o)
+
+abbrev pub givenBy : Standing → Bool
+givenBy standing.Free = false
+givenBy standing.Open = false
+givenBy (standing.Given v) = true
+
+abbrev pub ownHasVerdict : Own → Bool
+ownHasVerdict o = givenBy (ownStanding o)
+
+-- what is kept of the reply
+abbrev pub keptAt : OwnStage → Reply
+keptAt Free = noReply
+keptAt Sending = noReply
+keptAt (Awaiting timer) = noReply
+keptAt (Replying timer next r) = r
+keptAt (Done v r) = r
+
+abbrev pub ownKept : Own → Reply
+ownKept o = keptAt (o .stage)
+
+-- ---- the primary is sent
+
+abbrev pub claimedAt : OwnStage → Own → List ℕ → Own
+claimedAt Free o h = record { header = h; stage = Sending }
+claimedAt Sending o h = o
+claimedAt (Awaiting timer) o h = o
+claimedAt (Replying timer next r) o h = o
+claimedAt (Done v r) o h = o
+
+abbrev pub ownClaimed : Own → List ℕ → Own
+ownClaimed o h = claimedAt (o .stage) o h
+
+-- "A reply is awaited, and T3 runs, from the ACK of the primary's last block."; "1 sent (W = 0, all acknowledged)"
+unfoldable pub acknowledged : Own → Own
+acknowledged o = cond (primaryOf o .w) (stageAt o (Awaiting 0)) (ended o Sent)
+
+abbrev pub sentAt : OwnStage → Own → Own
+sentAt Free o = o
+sentAt Sending o = acknowledged o
+sentAt (Awaiting timer) o = o
+sentAt (Replying timer next r) o = o
+sentAt (Done v r) o = o
+
+abbrev pub ownSent : Own → Own
+ownSent o = sentAt (o .stage) o
+
+-- "7 send failed"
+abbrev pub failedAt : OwnStage → Own → Own
+failedAt Free o = o
+failedAt Sending o = ended o SendFailed
+failedAt (Awaiting timer) o = o
+failedAt (Replying timer next r) o = o
+failedAt (Done v r) o = o
+
+abbrev pub ownFailed : Own → Own
+ownFailed o = failedAt (o .stage) o
+
+-- ---- time
+
+-- "6 no reply in T3"
+abbrev pub awaitedBy : Own → Timer → Own
+awaitedBy o RunsOut = ended o NoReply
+awaitedBy o (Runs timer) = stageAt o (Awaiting timer)
+
+unfoldable pub awaitTick : Terms → Own → ℕ → Own
+awaitTick c o timer = awaitedBy o (ticked (c .t3) timer)
+
+-- "T4 beyond its limit breaks the message."
+abbrev pub replyingBy : Own → ℕ → Reply → Timer → Own
+replyingBy o next r RunsOut = ended o Broken
+replyingBy o next r (Runs timer) = stageAt o (Replying timer next r)
+
+unfoldable pub replyTick : Terms → Own → ℕ → ℕ → Reply → Own
+replyTick c o timer next r = replyingBy o next r (ticked (c .t4) timer)
+
+abbrev pub tickAt : Terms → OwnStage → Own → Own
+tickAt c Free o = o
+tickAt c Sending o = o
+tickAt c (Awaiting timer) o = awaitTick c o timer
+tickAt c (Replying timer next r) o = replyTick c o timer next r
+tickAt c (Done v r) o = o
+
+abbrev pub ownTick : Terms → Own → Own
+ownTick c o = tickAt c (o .stage) o
+
+-- ---- the reply
+
+-- "the first block of an awaited reply (same system bytes, even function, number 1, or 0 with E = 1)"
+unfoldable pub awaits : Own → Header → Bool
+awaits o h = eqb (primaryOf o .system) (h .system) && beginsReply h
+
+-- "Continues an open message"
+unfoldable pub continuesReply : Own → ℕ → Reply → Header → Bool
+continuesReply o next r h = continuesOf (replyHeader (primaryOf o) r) next h
+
+abbrev pub takesAt : OwnStage → Own → Header → Bool
+takesAt Free o h = false
+takesAt Sending o h = false
+takesAt (Awaiting timer) o h = awaits o h
+takesAt (Replying timer next r) o h = continuesReply o next r h
+takesAt (Done v r) o h = false
+
+abbrev pub ownTakes : Own → Header → Bool
+ownTakes o h = takesAt (o .stage) o h
+
+-- "function one higher"
+abbrev pub follows : ℕ → ℕ → Bool
+follows f before = eqb f (before + 1)
+
+-- "2 answered (complete reply, same stream, function one higher); 3 declined (same stream, function 0); 4 other reply"
+unfoldable pub verdictOf : Own → Header → Verdict
+verdictOf o h =
+    cond (eqb (h .stream) (primaryOf o .stream))
+    (cond (follows (h .function) (primaryOf o .function)) Answered (cond (eqb (h .function) 0) Declined Other))
+    Other
+
+-- 4 and 5: "An open message, or awaited reply, ends broken."; 7: "With E = 0, T4 restarts."
+abbrev pub repliedBy : Own → Header → Fate → Own
+repliedBy o h Empty = ended o Broken
+repliedBy o h TooLong = ended o Broken
+repliedBy o h (Last n) = stageAt o (Done (verdictOf o h) (replyOf h n))
+repliedBy o h (More n) = stageAt o (Replying 0 (h .number + 1) (replyOf h n))
+
+-- a block of the reply
+unfoldable pub replied : Own → Header → ℕ → Own
+replied o h size = repliedBy o h (fateOf h (ownKept o .length) size)
+
+-- a block that is for this place is of its reply; any other leaves it as it is
+unfoldable pub ownOffered : Own → Header → ℕ → Own
+ownOffered o h size = cond (ownTakes o h) (replied o h size) o
+
+-- ---- the end
+
+abbrev pub releasedAt : OwnStage → Own → Own
+releasedAt Free o = o
+releasedAt Sending o = o
+releasedAt (Awaiting timer) o = o
+releasedAt (Replying timer next r) o = o
+releasedAt (Done v r) o = stageAt o Free
+
+abbrev pub ownReleased : Own → Own
+ownReleased o = releasedAt (o .stage) o

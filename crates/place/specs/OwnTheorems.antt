@@ -1,0 +1,165 @@
+-- What is proved of an own place over every list of events from a fresh start, in the words of the onlooker
+-- (`specs/OwnHistory.antt`). Each proof is in `proofs/`.
+use Prim.Native.Nat.{ℕ, _+_, _*_, _%_, _≤_, _<_}
+use mathlib.Core.Path.{_≡_}
+use mathlib.Core.Bool.{Bool, true, false}
+use mathlib.Core.List.{List, [], _∷_}
+use mathlib.Core.Logic.{_↔_, _⊎_}
+use lib.ListN.{length}
+use Rattle.header.specs.declared.header.Header.{Header}
+use Rattle.settings.specs.declared.terms.Terms.{Terms}
+use Rattle.place.specs.Message.{Routed, StartsMessage, Continues, LacksData, Whole, firstOf}
+use Rattle.place.specs.Own.{ownStanding, ownKept}
+use Rattle.place.specs.Range.{ownInRange}
+use Rattle.place.specs.OwnHistory.{Event, claim, sent, failed, tick, release, block, none, acknowledged, lost, Answer, passed, kept, spoilt, answerTo, Seen, Track, track, atStart, run}
+use Rattle.place.specs.declared.verdict.Verdict.{Verdict}
+use Rattle.place.specs.declared.verdict.Verdict.the-variants.{Sent, Answered, Declined, Other, Broken, NoReply, SendFailed}
+use Rattle.place.specs.declared.verdict.Standing.the-variants.{Free, Open, Given}
+
+-- what any events at a fresh place leave
+pub record Reached (c : Terms) (t : Track) : Type 0 where
+  pub events : List (Event c)
+  pub so : track atStart events ≡ t
+
+-- ---- each verdict exactly when
+
+-- "same stream, function one higher"
+pub record Answers (request reply : Header) : Type 0 where
+  pub stream : reply .stream ≡ request .stream
+  pub function : reply .function ≡ request .function + 1
+
+-- "same stream, function 0"
+pub record Declines (request reply : Header) : Type 0 where
+  pub stream : reply .stream ≡ request .stream
+  pub function : reply .function ≡ 0
+
+-- a reply was asked for, and the request's last block was acknowledged
+pub record Asked (s : Seen) : Type 0 where
+  pub acked : s .request ≡ acknowledged
+  pub wanted : s .header .w ≡ true
+
+-- the blocks kept since are a whole message
+pub record Complete (s : Seen) : Type 0 where
+  pub asked : Asked s
+  pub whole : Whole (s .kept)
+
+-- a block was noted 26 or 27, or T4 ran out behind the last one kept
+abbrev pub Breaks : Terms → Seen → Type 0
+Breaks c s = (s .spoilt ≡ true) ⊎ ((1 ≤ length (s .kept)) × (c .t4 .0 < s .quiet))
+
+-- Each verdict's condition, from the history alone.
+abbrev pub Earned : Terms → Seen → Verdict → Type 0
+-- "1 sent (W = 0, all acknowledged)"
+Earned c s Sent = (s .request ≡ acknowledged) × (s .header .w ≡ false)
+-- "2 answered (complete reply, same stream, function one higher)"
+Earned c s Answered = Complete s × Answers (s .header) (firstOf (s .kept))
+-- "3 declined (same stream, function 0)"
+Earned c s Declined = Complete s × Declines (s .header) (firstOf (s .kept))
+-- "4 other reply"
+Earned c s Other = Complete s × (Answers (s .header) (firstOf (s .kept)) → ⊥) × (Declines (s .header) (firstOf (s .kept)) → ⊥)
+-- "5 broken"
+Earned c s Broken = Asked s × (Whole (s .kept) → ⊥) × Breaks c s
+-- "6 no reply in T3": no block kept, none that broke the reply, and T3 exceeded
+Earned c s NoReply = Asked s × (s .kept ≡ []) × (s .spoilt ≡ false) × (c .t3 .0 < s .since)
+-- "7 send failed"
+Earned c s SendFailed = s .request ≡ lost
+
+-- A place shows a verdict exactly when it is earned.
+abbrev pub VerdictExactly : Type 0
+VerdictExactly = (c : Terms) (t : Track) → Reached c t → (v : Verdict) → (ownStanding (t .own) ≡ Given v) ↔ Earned c (t .seen) v
+
+-- It is free exactly when no request is in it: none was accepted since the last release.
+abbrev pub FreeExactly : Type 0
+FreeExactly = (c : Terms) (t : Track) → Reached c t → (ownStanding (t .own) ≡ Free) ↔ (t .seen .request ≡ none)
+
+-- After 2, 3 and 4 the length shown is that of the data of the blocks kept.
+abbrev pub LengthShown : Type 0
+LengthShown = (c : Terms) (t : Track) → Reached c t → Complete (t .seen) → ownKept (t .own) .length ≡ t .seen .bytes
+
+-- ---- what becomes of a block
+
+-- "the first block of an awaited reply (same system bytes, even function, number 1, or 0 with E = 1)"
+pub record BeginsReply (request b : Header) : Type 0 where
+  pub system : b .system ≡ request .system
+  pub even : b .function % 2 ≡ 0
+  pub first : StartsMessage b
+
+-- "Continues an open message (device ID, system bytes, W, stream, function and next number)": the one of the blocks kept. The
+-- device ID is the request's too
+pub record GoesOn (s : Seen) (b : Header) : Type 0 where
+  pub some : 1 ≤ length (s .kept)
+  pub device : b .device ≡ s .header .device
+  pub following : Continues (firstOf (s .kept)) (length (s .kept) + 1) b
+
+-- the block is the reply's: a reply is awaited, no verdict is shown, and this is its first block or the next
+pub record Due (t : Track) (b : Header) : Type 0 where
+  pub asked : Asked (t .seen)
+  pub undecided : ownStanding (t .own) ≡ Open
+  pub fits : ((t .seen .kept ≡ []) × BeginsReply (t .seen .header) b) ⊎ GoesOn (t .seen) b
+
+-- "E = 0, or number above 1, with no data"; "Total data above 4,096"
+abbrev pub Spoils : Seen → Header → ℕ → Type 0
+Spoils s b size = LacksData b size ⊎ (4096 < s .bytes + size)
+
+-- Each answer's condition.
+abbrev pub Becomes : Track → Header → ℕ → Answer → Type 0
+Becomes t b size passed = Due t b → ⊥
+Becomes t b size kept = Due t b × (Spoils (t .seen) b size → ⊥)
+Becomes t b size spoilt = Due t b × Spoils (t .seen) b size
+
+-- A block that passed rule 1 is kept, breaks the reply or passes by exactly when it should: what the onlooker sees of blocks is
+-- as 01 says.
+abbrev pub AnswerExactly : Type 0
+AnswerExactly =
+    (c : Terms) (t : Track) → Reached c t → (b : Header) (size : ℕ) → Routed c b
+    → (a : Answer) → (answerTo (t .own) b size ≡ a) ↔ Becomes t b size a
+
+-- ---- at most one, and kept until released
+
+abbrev pub spares : {c : Terms} → Event c → Bool
+spares (claim h) = true
+spares sent = true
+spares failed = true
+spares tick = true
+spares release = false
+spares (block h size q) = true
+
+-- no release is among the events
+pub data Spared {c : Terms} : List (Event c) → Type 0 where
+  no-more : Spared []
+  one-more : {e : Event c} {es : List (Event c)} → spares e ≡ true → Spared es → Spared (e ∷ es)
+
+-- "gets at most one verdict and keeps it until released": whatever comes, but a release, the place with a verdict stays as it is
+abbrev pub OneVerdict : Type 0
+OneVerdict =
+    (c : Terms) (t : Track) → Reached c t → (v : Verdict) → ownStanding (t .own) ≡ Given v
+    → (es : List (Event c)) → Spared es → run (t .own) es ≡ t .own
+
+-- ---- and in time
+
+-- "by tick T3 + 4096 x T4 + 1"
+abbrev pub verdictLimit : Terms → ℕ
+verdictLimit c = c .t3 .0 + 4096 * c .t4 .0 + 1
+
+-- "and by tick T3 + 1 if no reply block was kept"
+abbrev pub silenceLimit : Terms → ℕ
+silenceLimit c = c .t3 .0 + 1
+
+pub record Decided (t : Track) : Type 0 where
+  pub verdict : Verdict
+  pub shown : ownStanding (t .own) ≡ Given verdict
+
+-- Ticks are counted from the ACK of the request's last block, and nothing that comes sets the count back.
+pub record InTime (c : Terms) (t : Track) : Type 0 where
+  pub by-limit : t .seen .request ≡ acknowledged → verdictLimit c ≤ t .seen .since → Decided t
+  pub by-silence : t .seen .request ≡ acknowledged → t .seen .kept ≡ [] → silenceLimit c ≤ t .seen .since → Decided t
+
+abbrev pub VerdictFalls : Type 0
+VerdictFalls = (c : Terms) (t : Track) → Reached c t → InTime c t
+
+-- ---- ranges
+
+-- the own place's part of refusal 3: with T3 and T4 in 01's range, 120 s or 1,200 ticks at most, no place that is reached has a
+-- number outside docs/STATE.md
+abbrev pub OwnReachedInRange : Type 0
+OwnReachedInRange = (c : Terms) → c .t3 .0 ≤ 1200 → c .t4 .0 ≤ 1200 → (t : Track) → Reached c t → ownInRange (t .own) ≡ true

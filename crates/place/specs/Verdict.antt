@@ -1,0 +1,13 @@
+-- "Verdicts of an own place" (01, "Messages"), and the number of each.
+use Prim.Native.Nat.{ℕ}
+use Rattle.place.specs.declared.verdict.Verdict.{Verdict}
+use Rattle.place.specs.declared.verdict.Verdict.the-variants.{Sent, Answered, Declined, Other, Broken, NoReply, SendFailed}
+
+abbrev pub verdictNumber : Verdict → ℕ
+verdictNumber Sent = 1
+verdictNumber Answered = 2
+verdictNumber Declined = 3
+verdictNumber Other = 4
+verdictNumber Broken = 5
+verdictNumber NoReply = 6
+verdictNumber SendFailed = 7

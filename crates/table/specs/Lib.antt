@@ -1,0 +1,5 @@
+pub mod Find
+pub mod Own
+pub mod Incoming
+pub mod Number
+pub mod Theorems
