@@ -1,18 +1,19 @@
-// Tries the parts of the unit by hand, blocks, cutting and the line: reads cases on standard input, a line each, and prints
-// one line for each.
+// Tries the parts of the unit by hand, blocks, cutting, the line and transactions: reads cases on standard input, a line each, and
+// prints one line for each.
 //
-//   # ..                         a comment, printed as it stands
-//   R BYTES                      reads a block alone
-//   W OUT LENGTH BYTES           writes a block alone into an output of OUT bytes
-//   C LENGTH                     cuts a message of LENGTH data bytes
-//   L ROLE T1 T2 RTY CALLS ..    makes calls on a line that is fresh
+//   # ..                                     a comment, printed as it stands
+//   R BYTES                                  reads a block alone
+//   W OUT LENGTH BYTES                       writes a block alone into an output of OUT bytes
+//   C LENGTH                                 cuts a message of LENGTH data bytes
+//   L ROLE T1 T2 RTY CALLS ..                makes calls on a line that is fresh
+//   X ROLE T3 T4 DEVID CHECK LAST CALL ..    makes calls on an exchange that is fresh
 //
-// `run` says what the first three print. The last prints 4 if a setting is out of its range. Else it prints 0, and for each
-// CALLS a space and what came of them, call by call: what went out, and behind it what was told; `-` if nothing came of them.
-// `trial` has the rest. A line that is none of these is answered by `?`.
+// `run` says what the first three print. The last two print 4 if a setting is out of its range. Else they print 0, and for each
+// CALLS or CALL a space and what came of it: `trial` and `traffic` have the rest. A line that is none of these is answered by `?`.
 mod run;
 mod show;
 mod text;
+mod traffic;
 mod trial;
 
 // What a piece of the input leaves.

@@ -1,9 +1,10 @@
-// The commands of the blocks, and the way to that of the line. What they print has no end of line: `main` adds it.
+// The commands of the blocks, and the way to those of the line and of the transactions. What they print has no end of line:
+// `main` adds it.
 use crate::show;
 use crate::text;
 use crate::text::Field;
-use crate::text::Front;
 use crate::text::One;
+use crate::traffic;
 use crate::trial;
 use block::Read;
 use block::Refusal;
@@ -22,25 +23,26 @@ pub(crate) fn answer(line: &[u8]) {
         return;
     }
     match text::front_byte(line) {
-        One::Byte(first) => command(first, text::from(line, 2)),
+        One::Byte(first) => command(first, text::from(line, 1)),
         One::Unreadable => show::unreadable(),
     }
 }
 
-// Answers a line by its first byte. `fields` is what stands after the space.
-fn command(first: u8, fields: &[u8]) {
+// Answers a line by its first byte. What stands behind it begins with a space.
+fn command(first: u8, rest: &[u8]) {
     match first {
-        b'R' => read(fields),
-        b'W' => write(fields),
-        b'C' => cut(fields),
-        b'L' => trial::answer(fields),
+        b'R' => read(text::from(rest, 1)),
+        b'W' => write(rest),
+        b'C' => cut(rest),
+        b'L' => trial::answer(text::from(rest, 1)),
+        b'X' => traffic::answer(text::from(rest, 1)),
         _ => show::unreadable(),
     }
 }
 
 // `R BYTES`: finds the bytes.
 fn read(field: &[u8]) {
-    let mut bytes = [0u8; 512];
+    let mut bytes = [0u8; 5000];
     match text::all_bytes(field, &mut bytes) {
         Field::Value(n) => read_bytes(text::first(&bytes, n)),
         Field::Unreadable => show::unreadable(),
@@ -79,27 +81,23 @@ fn show_header(header: Header) {
     show::hex(&ten[6..10]);
 }
 
-// `W OUT LENGTH BYTES`: takes OUT off.
+// `W OUT LENGTH BYTES`: takes OUT and LENGTH off.
 fn write(fields: &[u8]) {
-    match text::front_number(fields) {
-        Front::Number { value, end } => write_in(value as usize, text::behind(fields, end)),
-        Front::Unreadable => show::unreadable(),
-    }
-}
-
-// `W`, behind OUT: takes LENGTH off.
-fn write_in(room: usize, fields: &[u8]) {
-    match text::front_number(fields) {
-        Front::Number { value, end } => {
-            write_from(room, value as usize, text::behind(fields, end))
-        }
-        Front::Unreadable => show::unreadable(),
+    let numbers = text::front_numbers(fields, b' ', 2);
+    if numbers.readable {
+        write_from(
+            numbers.values[0] as usize,
+            numbers.values[1] as usize,
+            text::behind(fields, numbers.end),
+        );
+    } else {
+        show::unreadable();
     }
 }
 
 // `W`, behind LENGTH: finds the bytes.
 fn write_from(room: usize, length: usize, field: &[u8]) {
-    let mut bytes = [0u8; 512];
+    let mut bytes = [0u8; 5000];
     match text::all_bytes(field, &mut bytes) {
         Field::Value(n) => write_within(room, length, text::first(&bytes, n)),
         Field::Unreadable => show::unreadable(),
@@ -148,7 +146,7 @@ fn show_written(out: &[u8], n: usize) {
 }
 
 // How many bytes are not 0xEE.
-fn changed(bytes: &[u8]) -> usize {
+pub(crate) fn changed(bytes: &[u8]) -> usize {
     let mut count: usize = 0;
     let mut i: usize = 0;
     while i < bytes.len() {
@@ -161,10 +159,12 @@ fn changed(bytes: &[u8]) -> usize {
 }
 
 // `C LENGTH`: finds the number.
-fn cut(field: &[u8]) {
-    match text::decimal(field) {
-        Field::Value(length) => show_cuts(length as usize),
-        Field::Unreadable => show::unreadable(),
+fn cut(fields: &[u8]) {
+    let numbers = text::all_numbers(fields, b' ', 1);
+    if numbers.readable {
+        show_cuts(numbers.values[0] as usize);
+    } else {
+        show::unreadable();
     }
 }
 

@@ -19,8 +19,7 @@
 use crate::show;
 use crate::text;
 use crate::text::Field;
-use crate::text::Front;
-use crate::text::One;
+use crate::text::Role;
 use line::Event;
 use line::Line;
 use line::Out;
@@ -43,61 +42,34 @@ enum Made {
     Unreadable,
 }
 
-// Takes ROLE off.
+// Takes ROLE off. The equipment is the master, the host the slave.
 pub(crate) fn answer(fields: &[u8]) {
-    match text::front_byte(fields) {
-        One::Byte(role) => take_role(role, text::from(fields, 2)),
-        One::Unreadable => show::unreadable(),
+    match text::front_role(fields) {
+        Role::Host => take_settings(false, text::from(fields, 1)),
+        Role::Equipment => take_settings(true, text::from(fields, 1)),
+        Role::Unreadable => show::unreadable(),
     }
 }
 
-// The equipment is the master, the host the slave.
-fn take_role(role: u8, fields: &[u8]) {
-    match role {
-        b'H' => take_t1(false, fields),
-        b'E' => take_t1(true, fields),
-        _ => show::unreadable(),
-    }
-}
-
-// Behind ROLE: takes T1 off.
-fn take_t1(master: bool, fields: &[u8]) {
-    match text::front_number(fields) {
-        Front::Number { value, end } => take_t2(master, Tenths(value), text::behind(fields, end)),
-        Front::Unreadable => show::unreadable(),
-    }
-}
-
-// Behind T1: takes T2 off.
-fn take_t2(master: bool, t1: Tenths, fields: &[u8]) {
-    match text::front_number(fields) {
-        Front::Number { value, end } => {
-            take_rty(master, t1, Fifths(value), text::behind(fields, end))
-        }
-        Front::Unreadable => show::unreadable(),
-    }
-}
-
-// Behind T2: takes RTY off. What is left begins with the space before the first CALLS: so an empty field differs from none.
-fn take_rty(master: bool, t1: Tenths, t2: Fifths, fields: &[u8]) {
-    match text::front_number(fields) {
-        Front::Number { value, end } => {
-            if 255 < value {
-                show::unreadable();
-            } else {
-                let rty = value as u8;
-                take_panel(
-                    Panel {
-                        t1,
-                        t2,
-                        rty,
-                        master,
-                    },
-                    text::from(fields, end),
-                );
-            }
-        }
-        Front::Unreadable => show::unreadable(),
+// Behind ROLE: takes T1, T2 and RTY off. What is left begins with the space before the first CALLS: so an empty field differs
+// from none.
+fn take_settings(master: bool, fields: &[u8]) {
+    let numbers = text::front_numbers(fields, b' ', 3);
+    let rty = numbers.values[2];
+    if !numbers.readable {
+        show::unreadable();
+    } else if 255 < rty {
+        show::unreadable();
+    } else {
+        take_panel(
+            Panel {
+                t1: Tenths(numbers.values[0]),
+                t2: Fifths(numbers.values[1]),
+                rty: rty as u8,
+                master,
+            },
+            text::from(fields, numbers.end),
+        );
     }
 }
 
@@ -119,7 +91,7 @@ fn run(limits: Limits, calls: &[u8]) {
     let mut at: usize = 0;
     while at < calls.len() {
         let start = at + 1;
-        let end = text::space_from(calls, start);
+        let end = text::mark_from(calls, b' ', start);
         show::text(b" ");
         match run_field(limits, line, &calls[start..end], &mut received) {
             Made::Line(next) => line = next,
@@ -188,7 +160,7 @@ fn tick_on(limits: Limits, before: Trial, count: u16, received: &[u8; 256]) -> T
 
 // Bytes.
 fn run_hex(limits: Limits, line: Line, field: &[u8], received: &mut [u8; 256]) -> Made {
-    let mut bytes = [0u8; 512];
+    let mut bytes = [0u8; 5000];
     match text::some_bytes(field, &mut bytes) {
         Field::Value(n) => done(hear(limits, begun(line), text::first(&bytes, n), received)),
         Field::Unreadable => Made::Unreadable,

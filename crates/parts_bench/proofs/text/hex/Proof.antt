@@ -8,7 +8,7 @@ abbrev Inv-loop : tie.InvT-loop
 Inv-loop text bytes₀ n₀ bytes n = Unit
 
 abbrev μ-loop : tie.MeasureT-loop
-μ-loop text bytes₀ n₀ bytes n = 512 - n
+μ-loop text bytes₀ n₀ bytes n = 5000 - n
 
 pub hex-spec : {M : Type 1} → statement M
 hex-spec =
