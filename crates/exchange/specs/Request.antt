@@ -125,8 +125,8 @@ openFree c x q d room = openBy (freeOwn (x .own)) c x q d room
 unfoldable pub openOf : Terms → Exchange → Primary → List ℕ → List ℕ → Asking
 openOf c x q d room =
     cond (badPrimary q) (refused x refusal.Message room)
-    (cond (dataLong (length d)) (refused x refusal.DataLong room)  -- 6
-    (cond (isSending x) (refused x refusal.Sending room)  -- before 8
+    (cond (dataLong (length d)) (refused x refusal.DataLong room)
+    (cond (isSending x) (refused x refusal.Sending room)
     (openFree c x q d room)))
 
 -- ---- reply

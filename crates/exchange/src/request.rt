@@ -202,11 +202,11 @@ impl Exchange {
         if primary.is_bad() {
             return self.refused(Refusal::Message);
         }
-        if data_long(data.len()) { // a primary: 6
-            return self.refused(Refusal::DataLong); // before 7
+        if data_long(data.len()) {
+            return self.refused(Refusal::DataLong);
         }
-        if self.is_sending() { // a primary: 7
-            return self.refused(Refusal::Sending); // before 8
+        if self.is_sending() {
+            return self.refused(Refusal::Sending);
         }
         self.open_free(terms, primary, data, room)
     }
@@ -252,8 +252,8 @@ impl Exchange {
         ensures { λ r. ⌜ asking r (now (room .exit)) ≡ replyOf self place function (now («data» .entry)) (now (room .entry)) ⌝ }
     {
         let incoming = self.incoming_place(place);
-        if not_ready(incoming) { // a reply: 9
-            return self.refused(Refusal::Place); // before 10
+        if not_ready(incoming) { // 9 goes before 10 and 11
+            return self.refused(Refusal::Place); // also for a place above 3
         }
         let primary = incoming.primary();
         if !primary.w {
