@@ -1,7 +1,7 @@
 -- After any calls each area begins with the data of the kept blocks joined. Assumes nothing.
 use Prim.Native.Nat.{ℕ, _+_, _≤_, _<_}
 use mathlib.Core.Path.{_≡_, refl, sym, ap, _∙_, subst}
-use mathlib.Core.Bool.{Bool, true, false, not, false≢true}
+use mathlib.Core.Bool.{Bool, true, false, false≢true}
 use mathlib.Core.List.{List, [], _∷_}
 use mathlib.Core.Logic.{_⊎_, inl, inr}
 use native.Mathlib.Omega.{arith}
@@ -14,7 +14,7 @@ use Rattle.room.specs.Room.{keptIn}
 use Rattle.room.specs.declared.Message.the-variants as message
 use Rattle.place.specs.Fate.{fateOf}
 use Rattle.place.specs.Own.{freshOwn, keptAt, ownHasVerdict, ownTick, ownClaimed}
-use Rattle.place.specs.Incoming.{freshIncoming, primaryOf, lengthAt, freeAt, openAt, incomingIsReplied, incomingTick, begins, begunBy, incomingBegun, incomingAnswered}
+use Rattle.place.specs.Incoming.{freshIncoming, lengthAt, freeAt, openAt, incomingTick, begins, begunBy, incomingBegun, incomingAnswered}
 use Rattle.place.proofs.Messages.{by-fate}
 use Rattle.place.specs.declared.fate.Fate.{Fate}
 use Rattle.place.specs.declared.incoming.End.the-variants as end
@@ -33,10 +33,10 @@ use Rattle.exchange.specs.Exchange.{ownPlace, incomingPlace, putOwn, put
 use Rattle.exchange.specs.Tick.{tickOf}
 use Rattle.exchange.specs.Send.{endedOwn, endedReply, sentBy, failedBy}
 use Rattle.exchange.specs.Judge.{Judging, thrown, spoiltBy, replyBlock, messageBlock, beginsAt, judgeOf}
-use Rattle.exchange.specs.Request.{Asking, badPrimary, badFunction, dataLong, isSending, notReady, refusedBy, refused, primaryHeader, claimedAt, openBy, openFree, openOf, replyAccepted, replyReady, replyOf, releaseOwn, releaseIncoming}
+use Rattle.exchange.specs.Request.{Asking, notReady, refusedBy, refused, primaryHeader, claimedAt, openOf, replyAccepted, replyOf, releaseOwn, releaseIncoming}
 use Rattle.exchange.specs.History.{Call, block, tick, acknowledged, failed, primary, reply, free-own, free-incoming, Joined, anew, ofNew, joins, ifKept, opens, replies, Track, next, track, atStart}
 use Rattle.exchange.specs.Theorems.{Reached, StartsWith, hasReply, lengthSent, sends, JoinedInAreas}
-use Rattle.exchange.proofs.Cases.{by-found, Thrown, stray, no-place, too-long, empty, Takes, by-judge}
+use Rattle.exchange.proofs.Cases.{Thrown, stray, no-place, too-long, empty, Takes, by-judge, by-open, by-reply}
 use Rattle.exchange.proofs.Tables.{map-every}
 use Rattle.exchange.proofs.Filling.{Fills, spares-same, spares-kept, fills-first, fits-area}
 use Rattle.exchange.proofs.Holding.{OwnHolds, IncomingHolds, SendHolds, own-ticked, own-sent, own-failed, own-released, own-claimed, incoming-ticked, incoming-answered, incoming-ended, incoming-released}
@@ -120,7 +120,7 @@ module _ (c : Terms) (x : Exchange) (h d room : List ℕ) (s : Joined) (g : Good
       (λ i. Good (putIncoming y p i) (keptIn room (message.Incoming p) 0 d) (record { replies = s .replies; messages = anew (s .messages) p d; outgoing = s .outgoing }))
       (w .1)
       (incoming-kept y room s gy p 0 d d _ (begun-holds room p (g .whole) (w .0) h d (incomingPlace x p) (ap spoiltBy e ∙ u)))))
-      outcast
+      (λ n t r m. outcast n t)
 
 -- ---- time, and the end of a send
 
@@ -203,12 +203,6 @@ module _ (x : Exchange) (room : List ℕ) (s : Joined) (g : Good x room s) where
         let all = to-send (putOwn x p new) (record { replies = anew (s .replies) p []; messages = s .messages; outgoing = s .outgoing }) put (sending.Primary p (length d)) (λ after f. f) in
         record { whole = all .whole; own-four = all .own-four; incoming-four = all .incoming-four; own = all .own; incoming = all .incoming; sends = all .sends }
 
-    opened : (c : Terms) (q : Primary) → Opened d (openFree c x q d room)
-    unfolding openFree refused refusedBy
-    opened c q =
-        by-found (freeOwn (x .own)) (λ f. Opened d (openBy f c x q d room))
-        (λ p e. claimed c q p e) (λ e. g)
-
     answered : (p f : ℕ) → Answered d (replyAccepted x p f d room)
     unfolding replyAccepted
     answered p f =
@@ -216,22 +210,12 @@ module _ (x : Exchange) (room : List ℕ) (s : Joined) (g : Good x room s) where
         to-send (putIncoming x p (incomingAnswered i)) s (incoming-only x room s g p _ (incoming-answered room p (s .messages p) (i .header) (i .stage) (incoming-any x room s g p))) (sending.Reply p f (length d)) (λ after w. w)
 
   primary-joined : (c : Terms) (q : Primary) (d : List ℕ) → Opened d (openOf c x q d room)
-  unfolding openOf refused refusedBy
-  primary-joined c q d =
-      chosen (Opened d) (badPrimary q) _ _ (λ e. g)
-      (λ e. chosen (Opened d) (dataLong (length d)) _ _ (λ l. g)
-      (λ l. chosen (Opened d) (isSending x) _ _ (λ u. g) (λ u. opened d (fits-area d l) c q)))
+  unfolding refused refusedBy
+  primary-joined c q d = by-open x d room (Opened d) (λ r. g) c q (λ p l e. claimed d (fits-area d l) c q p e)
 
   reply-asked : (p f : ℕ) (d : List ℕ) → Answered d (replyOf x p f d room)
-  unfolding replyOf replyReady refused refusedBy
-  reply-asked p f d =
-      let i = incomingPlace x p in
-      chosen (Answered d) (notReady i) _ _ (λ e. g)
-      (λ e. chosen (Answered d) (not (primaryOf i .w)) _ _ (λ e. g)
-      (λ e. chosen (Answered d) (incomingIsReplied i) _ _ (λ e. g)
-      (λ e. chosen (Answered d) (badFunction (primaryOf i) f) _ _ (λ e. g)
-      (λ e. chosen (Answered d) (dataLong (length d)) _ _ (λ l. g)
-      (λ l. chosen (Answered d) (isSending x) _ _ (λ u. g) (λ u. answered d (fits-area d l) p f))))))
+  unfolding refused refusedBy
+  reply-asked p f d = by-reply x d room (Answered d) (λ r. g) p f (λ e l. answered d (fits-area d l) p f)
 
 -- ---- any calls
 

@@ -1,7 +1,7 @@
--- What holds in each case of judging holds of judging. Assumes nothing.
+-- What holds in each case of judging holds of judging, and in each case of a request, of the request. Assumes nothing.
 use Prim.Native.Nat.{ℕ}
 use mathlib.Core.Path.{_≡_, refl}
-use mathlib.Core.Bool.{Bool, true, false}
+use mathlib.Core.Bool.{Bool, true, false, not}
 use mathlib.Core.List.{List}
 use lib.ListN.{length}
 use Rattle.header.specs.Header.{headerOf}
@@ -9,17 +9,21 @@ use Rattle.header.specs.declared.header.Header.{Header}
 use Rattle.settings.specs.declared.terms.Terms.{Terms}
 use Rattle.wire.proofs.Choice.{chosen}
 use Rattle.place.specs.Fate.{beginsPrimary, fateOf}
+use Rattle.place.specs.Incoming.{primaryOf, incomingIsReplied}
 use Rattle.place.specs.declared.fate.Fate.{Fate}
 use Rattle.place.specs.declared.fate.Fate.the-variants as fate
-use Rattle.table.specs.Own.{replyFor}
+use Rattle.table.specs.Own.{freeOwn, replyFor}
 use Rattle.table.specs.Incoming.{freeIncoming, messageFor, openAlike}
 use Rattle.table.specs.declared.find.Found.{Found}
 use Rattle.table.specs.declared.find.Found.the-variants.{At, Nowhere}
-use Rattle.exchange.specs.Exchange.{savedNow}
+use Rattle.exchange.specs.Exchange.{incomingPlace, savedNow}
 use Rattle.exchange.specs.Judge.{Judging, thrown, isMisrouted, isDuplicate, lastBy, spoiltBy, replyBlock, messageBlock, beginsAt, inFree, inPlace, takesPlace, primaryBy, primaryBlock, orPrimary, ofMessage, noReplyBlock, ofReply, newBlock, judgeOf}
+use Rattle.exchange.specs.Request.{Asking, badPrimary, badFunction, dataLong, isSending, notReady, refused, openBy, openFree, openOf, replyAccepted, replyReady, replyOf}
 use Rattle.exchange.specs.declared.note.Note.{Note}
 use Rattle.exchange.specs.declared.note.Note.the-variants.{Misrouted, Duplicate, Stray, NoPlace, TooLong, Empty}
 use Rattle.exchange.specs.declared.exchange.Exchange.{Exchange}
+use Rattle.exchange.specs.declared.request.Refusal.{Refusal}
+use Rattle.exchange.specs.declared.request.Primary.{Primary}
 
 -- what was found
 pub by-found : (f : Found) (P : Found → Type 0) → ((p : ℕ) → f ≡ At p → P (At p)) → (f ≡ Nowhere → P Nowhere) → P f
@@ -55,7 +59,9 @@ module _ (c : Terms) (x : Exchange) (h d room : List ℕ) (J : Judging → Type 
       → spoiltBy f ≡ false → Takes x (headerOf h) p gone → J (beginsAt (savedNow x h) p h gone (lastBy f) d room)
 
   abbrev pub Outcast : Type 0
-  Outcast = (n : Note) → Thrown n → J (thrown (savedNow x h) n room)
+  Outcast =
+      (n : Note) → Thrown n → replyFor (x .own) (headerOf h) ≡ Nowhere → messageFor (x .incoming) (headerOf h) ≡ Nowhere
+      → J (thrown (savedNow x h) n room)
 
   module _ (primary : OfPrimary) (outcast : Outcast) (q : isMisrouted c (headerOf h) ≡ false) (r : replyFor (x .own) (headerOf h) ≡ Nowhere) (m : messageFor (x .incoming) (headerOf h) ≡ Nowhere) (o : beginsPrimary (headerOf h) ≡ true) where
     placed : (f : Fate) → fateOf (headerOf h) 0 (length d) ≡ f → spoiltBy f ≡ false → J (takesPlace (savedNow x h) h (lastBy f) d room)
@@ -65,11 +71,11 @@ module _ (c : Terms) (x : Exchange) (h d room : List ℕ) (J : Judging → Type 
         (λ p a. primary p true f q r m o e s a)
         (λ a.
         by-found (freeIncoming (x .incoming)) (λ g. J (inFree g (savedNow x h) h (lastBy f) d room))
-        (λ p g. primary p false f q r m o e s (a, g)) (λ g. outcast NoPlace no-place))
+        (λ p g. primary p false f q r m o e s (a, g)) (λ g. outcast NoPlace no-place r m))
 
     by-fate : (f : Fate) → fateOf (headerOf h) 0 (length d) ≡ f → J (primaryBy f (savedNow x h) h d room)
-    by-fate fate.Empty e = outcast Empty empty
-    by-fate fate.TooLong e = outcast TooLong too-long
+    by-fate fate.Empty e = outcast Empty empty r m
+    by-fate fate.TooLong e = outcast TooLong too-long r m
     by-fate (fate.Last n) e = placed (fate.Last n) e refl
     by-fate (fate.More n) e = placed (fate.More n) e refl
 
@@ -85,7 +91,7 @@ module _ (c : Terms) (x : Exchange) (h d room : List ℕ) (J : Judging → Type 
         (λ p m. message p q r m)
         (λ m.
         chosen J (beginsPrimary (headerOf h)) _ _
-        (λ o. begun primary outcast q r m o) (λ o. outcast Stray stray))
+        (λ o. begun primary outcast q r m o) (λ o. outcast Stray stray r m))
 
     pub new : J (newBlock (savedNow x h) h d room)
     unfolding newBlock savedNow
@@ -101,3 +107,27 @@ module _ (c : Terms) (x : Exchange) (h d room : List ℕ) (J : Judging → Type 
   by-judge misrouted duplicate reply message primary outcast =
       chosen J (isMisrouted c (headerOf h)) _ _ misrouted
       (λ q. chosen J (isDuplicate c x h) _ _ (λ u. duplicate q u) (λ u. new reply message primary outcast q))
+
+-- ---- the requests
+
+module _ (x : Exchange) (d room : List ℕ) (R : Asking → Type 0) (refuse : (r : Refusal) → R (refused x r room)) where
+  -- a primary takes the free place that is found
+  pub by-open : (c : Terms) (q : Primary) → ((p : ℕ) → dataLong (length d) ≡ false → freeOwn (x .own) ≡ At p → R (openBy (At p) c x q d room)) → R (openOf c x q d room)
+  unfolding openOf openFree
+  by-open c q take =
+      chosen R (badPrimary q) _ _ (λ e. refuse _)
+      (λ e. chosen R (dataLong (length d)) _ _ (λ l. refuse _)
+      (λ l. chosen R (isSending x) _ _ (λ u. refuse _)
+      (λ u. by-found (freeOwn (x .own)) (λ f. R (openBy f c x q d room)) (λ p a. take p l a) (λ a. refuse _))))
+
+  -- a reply is to a message that is complete
+  pub by-reply : (p f : ℕ) → (notReady (incomingPlace x p) ≡ false → dataLong (length d) ≡ false → R (replyAccepted x p f d room)) → R (replyOf x p f d room)
+  unfolding replyOf replyReady
+  by-reply p f accept =
+      let i = incomingPlace x p in
+      chosen R (notReady i) _ _ (λ e. refuse _)
+      (λ a. chosen R (not (primaryOf i .w)) _ _ (λ e. refuse _)
+      (λ e. chosen R (incomingIsReplied i) _ _ (λ e. refuse _)
+      (λ e. chosen R (badFunction (primaryOf i) f) _ _ (λ e. refuse _)
+      (λ e. chosen R (dataLong (length d)) _ _ (λ l. refuse _)
+      (λ l. chosen R (isSending x) _ _ (λ u. refuse _) (λ u. accept a l))))))

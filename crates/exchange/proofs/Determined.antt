@@ -31,6 +31,10 @@ use Rattle.exchange.proofs.exchange.Exchange.incoming_reading.Reads as 
 use Rattle.exchange.proofs.exchange.Exchange.incoming_reading.Kinds as incoming-reading-kinds
 use Rattle.exchange.proofs.exchange.Exchange.in_range.Reads as in-range-reads
 use Rattle.exchange.proofs.exchange.Exchange.in_range.Kinds as in-range-kinds
+use Rattle.exchange.proofs.exchange.Exchange.is_sending.Reads as is-sending-reads
+use Rattle.exchange.proofs.exchange.Exchange.is_sending.Kinds as is-sending-kinds
+use Rattle.exchange.proofs.flags.Flags.none.Reads as no-flags-reads
+use Rattle.exchange.proofs.flags.Flags.none.Kinds as no-flags-kinds
 use Rattle.exchange.proofs.note.Note.number.Reads as note-number-reads
 use Rattle.exchange.proofs.note.Note.number.Kinds as note-number-kinds
 use Rattle.exchange.proofs.request.Refusal.number.Reads as refusal-number-reads
@@ -80,3 +84,9 @@ note-number-determined κs a = (tt, λ x y s t p q. p ∙ sym q)
 
 pub refusal-number-determined : Determined 0 refusal-number-kinds.ps refusal-number-kinds.r refusal-number-reads.Asked refusal-number-reads.Post (λ κs r s. r)
 refusal-number-determined κs a = (tt, λ x y s t p q. p ∙ sym q)
+
+pub is-sending-determined : Determined 0 is-sending-kinds.ps is-sending-kinds.r is-sending-reads.Asked is-sending-reads.Post (λ κs r s. r)
+is-sending-determined κs a = (tt, λ x y s t p q. p ∙ sym q)
+
+pub no-flags-determined : Determined 0 no-flags-kinds.ps no-flags-kinds.r no-flags-reads.Asked no-flags-reads.Post (λ κs r s. r)
+no-flags-determined κs a = (tt, λ x y s t p q. p ∙ sym q)

@@ -128,7 +128,7 @@ judge-leaves c x h d room =
     by-block x h d room _ (fateOf (headerOf h) (incomingLength (incomingPlace x p)) (length d)) (message.Incoming p) (incomingLength (incomingPlace x p))
     refl refl refl refl refl)
     (λ p gone f q r m o e s t. by-block x h d room _ (fate.Last 0) (message.Incoming p) 0 refl refl refl refl refl)
-    (by-thrown x h d room)
+    (λ n t r m. by-thrown x h d room n t)
 
 -- ---- the place of a new primary
 

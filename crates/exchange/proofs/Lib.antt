@@ -1,9 +1,9 @@
 -- `Alike`, `Tests`, `Finding`, `Judging`: the tests of the rules, and what each says. `Notes`, `Leaving`, `Keeping`: which note is answered,
 -- and what judging leaves. `Refusing`, `Accepting`: which requests are refused, and what the others leave. `Table`: 01's numbers.
--- `Cases`: judging case by case; on it `Tables`, `Filling`, `Holding`, `Joining`, `Areas`: what the areas begin with after any calls;
--- `Inside`: each place goes through events of a place; `Flagging`, `Telling`: what the flags tell. `Repeated`, `Judged`, `Blocks`,
--- `Growing`, `Assembling`, `Answering`: the blocks of a cut message, judged in order, are the message. `Determined`: what each public
--- contract determines.
+-- `Cases`: judging and the requests case by case; on it `Tables`, `Filling`, `Holding`, `Joining`, `Areas`: what the areas begin with after
+-- any calls; `Watching`, `Inside`: each place goes through events of a place, as its onlooker sees them; `Flagging`, `Telling`: what the
+-- flags tell. `Repeated`, `Judged`, `Blocks`, `Growing`, `Assembling`, `Answering`: the blocks of a cut message, judged in order, are the
+-- message. `Determined`: what each public contract determines.
 pub mod Alike
 pub mod Tests
 pub mod Finding
@@ -20,6 +20,7 @@ pub mod Filling
 pub mod Holding
 pub mod Joining
 pub mod Areas
+pub mod Watching
 pub mod Inside
 pub mod Flagging
 pub mod Telling

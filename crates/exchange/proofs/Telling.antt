@@ -122,7 +122,7 @@ module _ (c : Terms) (x : Exchange) (own-four : length (x .own) ≡ 4) (incoming
       (λ a. Flagged x (record { own = x .own; incoming = set (x .incoming) p a; saved = record { any = true; header = h }; numbers = x .numbers; sending = x .sending }) (incomingFlags p (lastBy (fateOf b 0 (length d))) gone))
       (w .1)
       (incoming-flagged x _ p _ _ gone incoming-four refl refl (begun-complete i (open-incomplete (i .stage) (w .1)) h (b .number) (fateOf b 0 (length d)) (ap spoiltBy e ∙ u)) (begun-dropped i h (b .number) (fateOf b 0 (length d)) gone (ap spoiltBy e ∙ u)) (gone-open x b p gone incoming-four t))))
-      (outcast h room)
+      (λ n t r m. outcast h room n t)
 
 -- ---- a tick
 

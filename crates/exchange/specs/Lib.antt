@@ -12,4 +12,5 @@ pub mod Refusals
 pub mod Table
 pub mod History
 pub mod Theorems
+pub mod Watching
 pub mod Assembly

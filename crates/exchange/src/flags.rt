@@ -30,7 +30,7 @@ fn mark_at(place: usize, on: bool) -> [bool; 4]
 }
 
 impl Flags {
-    pub(crate) fn none() -> Flags
+    pub fn none() -> Flags
         ensures { λ r. ⌜ r ≡ noFlags ⌝ }
     {
         let verdicts = no_marks();

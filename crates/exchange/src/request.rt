@@ -125,7 +125,7 @@ fn bad_function(primary: Header, function: u8) -> bool
 }
 
 impl Exchange {
-    fn is_sending(self) -> bool
+    pub fn is_sending(self) -> bool
         ensures { λ r. ⌜ r ≡ isSending self ⌝ }
     {
         let sending = self.sending;

@@ -1,0 +1,40 @@
+-- Laws that the functions' proofs cite.
+pub mod Codes
+pub mod Gates
+pub mod Turns
+-- Calls by cases, and what one leaves of the line and of the transactions inside.
+pub mod Cases
+pub mod Lining
+pub mod Telling
+-- Any calls: the settings, the line, the transactions, the places; line and transactions agree; no state is refused by 3.
+pub mod Reaching
+pub mod Rooms
+pub mod Placing
+pub mod Busy
+pub mod Agreeing
+pub mod Ranging
+-- The onlooker at the door: which bytes leave, and the line's limits.
+pub mod DoorBytes
+pub mod DoorLine
+pub mod Door
+pub mod DoorLimits
+pub mod DoorTicks
+-- Refusals, the start, and what a call writes.
+pub mod Ranges
+pub mod Refusing
+pub mod Starting
+pub mod Filling
+pub mod Writing
+-- Two units on a line that loses nothing.
+pub mod Calling
+pub mod Hearing
+pub mod Blocks
+pub mod Carrying
+pub mod Standing
+pub mod Asking
+pub mod Delivering
+pub mod Replying
+pub mod Returning
+-- The numbers, and that each contract determines everything.
+pub mod Table
+pub mod Determined

@@ -1,0 +1,53 @@
+-- 01's numbers of refusals and notes. Assumes nothing.
+use mathlib.Core.Path.{_≡_, refl}
+use Rattle.line.specs.Codes.{noteOf}
+use Rattle.line.specs.declared.step.Event.{Event}
+use Rattle.line.specs.declared.step.Event.the-variants as event
+use Rattle.link.specs.Answer.{noteNumber, noteBy}
+use Rattle.link.specs.Table.{RefusalNumbers, NoteNumbers}
+
+pub refusal-numbers : RefusalNumbers
+refusal-numbers =
+    record {
+      done = refl;
+      taken = λ p. refl;
+      output-short = refl;
+      room-size = refl;
+      state = refl;
+      setting = refl;
+      message = refl;
+      data-long = refl;
+      sending = refl;
+      no-place = refl;
+      place = refl;
+      not-wanted = refl;
+      replied = refl;
+    }
+
+of-line : (e : Event) → noteNumber (noteBy e) ≡ noteOf e
+of-line event.Quiet = refl
+of-line event.Sent = refl
+of-line event.Failed = refl
+of-line event.GaveWay = refl
+of-line (event.Up n) = refl
+of-line event.NoLength = refl
+of-line event.Gap = refl
+of-line (event.Bad fault) = refl
+
+pub note-numbers : NoteNumbers
+note-numbers =
+    record {
+      nothing = refl;
+      kept = refl;
+      misrouted = refl;
+      duplicate = refl;
+      stray = refl;
+      no-place = refl;
+      too-long = refl;
+      empty = refl;
+      no-length = refl;
+      gap = refl;
+      bad-length = refl;
+      bad-sum = λ r c. refl;
+      of-line = of-line;
+    }

@@ -1,0 +1,11 @@
+use borrow.Author.Needs.{needs}
+use Rattle.link.proofs.link.Link.block_out.Statement.{statement}
+use Rattle.link.proofs.link.Link.block_out.Tie as tie
+
+pub block-out-spec : {M : Type 1} → statement M
+block-out-spec =
+    tie.close
+    (tie.spec
+    (λ c κs. search needs) (λ c κs. search needs) (λ c κs. search needs) (λ c κs. search needs)
+    (λ c. search needs)
+    (λ c. (rw (c .before .before .before .before .put-message .ensures .0, c .before .before .before .before .before .outgoing .ensures, c .before .none .ensures) at (c .answers .ensures), rw (c .before .before .before .before .before .outgoing .ensures) at (c .before .before .before .before .put-message .ensures .1))))

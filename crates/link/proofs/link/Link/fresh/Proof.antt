@@ -1,0 +1,10 @@
+use borrow.Author.Needs.{needs}
+use Rattle.link.proofs.link.Link.fresh.Statement.{statement}
+use Rattle.link.proofs.link.Link.fresh.Tie as tie
+
+pub fresh-spec : {M : Type 1} → statement M
+fresh-spec =
+    tie.close
+    (tie.spec
+    (λ c κs. search needs) (λ c κs. search needs)
+    (λ c. rw (c .before .fresh .ensures, c .fresh2 .ensures)))

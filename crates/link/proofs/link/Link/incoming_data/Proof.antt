@@ -1,0 +1,13 @@
+use mathlib.Core.Path.{sym, _∙_}
+use borrow.Author.Needs.{needs}
+use Rattle.link.proofs.link.Link.incoming_data.Statement.{statement}
+use Rattle.link.proofs.link.Link.incoming_data.Tie as tie
+
+pub incoming-data-spec : {M : Type 1} → statement M
+incoming-data-spec =
+    tie.close
+    (tie.spec
+    (λ c κs. search needs) (λ c. search needs) (λ c. search needs) (λ c. search needs) (λ c. search needs)
+    (λ c. search needs) (λ c. search needs) (λ c κs. search needs)
+    (λ c. simp (sym (c .before .before .before .incoming .ensures) ∙ c .before .enum-told .given .1))
+    (λ c. simp (sym (c .before .before .before .before .incoming .ensures) ∙ c .before .before .length .given .1) (c .bytes-of .ensures)))

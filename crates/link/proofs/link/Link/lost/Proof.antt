@@ -1,0 +1,10 @@
+use borrow.Author.Needs.{needs}
+use Rattle.link.proofs.link.Link.lost.Statement.{statement}
+use Rattle.link.proofs.link.Link.lost.Tie as tie
+
+pub lost-spec : {M : Type 1} → statement M
+lost-spec =
+    tie.close
+    (tie.spec
+    (λ c κs. search needs) (λ c κs. search needs) (λ c. search needs)
+    (λ c. (rw (c .before .before .before .before .before .before .failed .ensures) at (c .before .before .settles .ensures .0), c .before .before .settles .ensures .1)))

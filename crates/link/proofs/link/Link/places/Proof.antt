@@ -1,0 +1,10 @@
+use borrow.Author.Needs.{needs}
+use Rattle.link.proofs.link.Link.places.Statement.{statement}
+use Rattle.link.proofs.link.Link.places.Tie as tie
+
+pub places-spec : {M : Type 1} → statement M
+places-spec =
+    tie.close
+    (tie.spec
+    (λ c κs. search needs) (λ c κs. search needs) (λ c κs. search needs) (λ c. search needs)
+    (λ c. (rw (c .before .before .before .before .both-flags .ensures, c .before .before .before .before .before .before .before .tick .ensures) at (c .before .before .settles .ensures .0), c .before .before .settles .ensures .1)))

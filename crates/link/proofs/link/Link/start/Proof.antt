@@ -1,0 +1,14 @@
+use mathlib.Core.Path.{sym, _∙_}
+use borrow.Author.Needs.{needs}
+use Rattle.link.proofs.link.Link.start.Statement.{statement}
+use Rattle.link.proofs.link.Link.start.Tie as tie
+
+pub start-spec : {M : Type 1} → statement M
+start-spec =
+    tie.close
+    (tie.spec
+    (λ c κs. search needs) (λ c. search needs) (λ c κs. search needs) (λ c κs. search needs)
+    (λ c κs. search needs) (λ c. search needs) (λ c κs. search needs) (λ c κs. search needs)
+    (λ c κs. search needs)
+    (λ c. simp (sym (c .before .before .before .before .before .before .settled .ensures) ∙ c .before .before .before .before .settings .given .1) (rw (c .before .none .ensures, c .before .before .fresh .ensures) at (c .answers .ensures)))
+    (λ c. simp (sym (c .before .before .before .before .before .settled .ensures) ∙ c .before .before .before .enum-told .given .1) (rw (c .before .fresh2 .ensures, c .before .before .none2 .ensures) at (c .refused .ensures))))

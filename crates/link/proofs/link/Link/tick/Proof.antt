@@ -1,0 +1,15 @@
+use Rattle.link.proofs.Gates.{past}
+use Rattle.link.proofs.Turns.{opens, shuts, ticks-on}
+use borrow.Author.Needs.{needs}
+use Rattle.link.proofs.link.Link.tick.Statement.{statement}
+use Rattle.link.proofs.link.Link.tick.Tie as tie
+
+pub tick-spec : {M : Type 1} → statement M
+tick-spec =
+    tie.close
+    (tie.spec
+    (λ c κs. search needs) (λ c. search needs) (λ c κs. search needs)
+    (λ c κs. past (c .before .before .before .before .before .before .before .before .before .before .args .self) _ _ (c .before .before .before .before .before .before .before .gate .ensures) (c .before .before .before .before .before .enum-told .given .1) .output)
+    (λ c. search needs) (λ c κs. search needs) (λ c. search needs)
+    (λ c. opens (c .before .before .before .before .before .before .before .before .before .before .before .before .before .args .self) (c .before .before .before .before .before .before .before .before .before .before .before .before .before .args .room .now) (c .before .before .before .before .before .before .before .before .before .before .before .before .before .args .out .now) _ (c .before .before .before .before .before .before .before .before .before .before .gate .ensures) (c .before .before .before .before .before .before .before .before .enum-told .given .1) (ticks-on (c .before .before .before .before .before .before .before .before .before .before .before .before .before .args .self) (c .before .before .before .before .before .tick .result) (c .before .before .before .before .before .before .before .before .before .before .before .before .before .args .room .now) (c .before .before .before .before .before .before .before .before .before .before .before .before .before .args .out .now) (c .before .before .before .before .before .tick .ensures) (c .before .before .ticked .ensures .0) (c .before .before .ticked .ensures .1)))
+    (λ c. shuts (c .before .before .before .before .before .before .before .args .self) (c .before .before .before .before .before .before .before .args .room .now) (c .before .before .before .before .before .before .before .args .out .now) _ _ (c .before .before .before .before .gate .ensures) (c .before .before .refusal .given .1) (c .refused .ensures)))

@@ -1,0 +1,13 @@
+use mathlib.Core.Path.{sym, _∙_}
+use borrow.Author.Needs.{needs}
+use Rattle.link.proofs.link.Link.ticked.Statement.{statement}
+use Rattle.link.proofs.link.Link.ticked.Tie as tie
+
+pub ticked-spec : {M : Type 1} → statement M
+ticked-spec =
+    tie.close
+    (tie.spec
+    (λ c κs. search needs) (λ c κs. search needs) (λ c κs. search needs) (λ c. search needs)
+    (λ c. (simp (sym (c .before .before .before .before .before .before .before .before .before .has-failed .ensures) ∙ c .before .before .before .before .before .before .before .before .if1 .taken) (rw (c .before .before .before .before .before .before .failed .ensures) at (c .before .before .places .ensures .0)), c .before .before .places .ensures .1))
+    (λ c κs. search needs) (λ c κs. search needs) (λ c κs. search needs) (λ c. search needs)
+    (λ c. (simp (sym (c .before .before .before .before .before .before .before .has-failed .ensures) ∙ c .before .before .before .before .before .before .if1 .left) (rw (c .before .before .before .before .before .of .ensures, c .before .before .before .before .none .ensures) at (c .before .before .places2 .ensures .0)), c .before .before .places2 .ensures .1)))

@@ -1,0 +1,46 @@
+-- What a call answers, and the numbers of refusals and notes (01, "Refusal numbers and notes").
+use Prim.Native.Nat.{ℕ}
+use Rattle.line.specs.Codes.{faultNote}
+use Rattle.line.specs.declared.step.Event.{Event}
+use Rattle.line.specs.declared.step.Event.the-variants as event
+use Rattle.exchange.specs.Note.{noteNumber as blockNote}
+use Rattle.exchange.specs.Request.{refusalNumber as requestNumber}
+use Rattle.link.specs.declared.answer.Refusal.{Refusal}
+use Rattle.link.specs.declared.answer.Refusal.the-variants as refusal
+use Rattle.link.specs.declared.answer.Outcome.{Outcome}
+use Rattle.link.specs.declared.answer.Outcome.the-variants as outcome
+use Rattle.link.specs.declared.answer.Note.{Note}
+use Rattle.link.specs.declared.answer.Note.the-variants as note
+
+-- 01's table; 5 to 11 are the transactions'
+abbrev pub refusalNumber : Refusal → ℕ
+refusalNumber refusal.OutputShort = 1
+refusalNumber refusal.RoomSize = 2
+refusalNumber refusal.State = 3
+refusalNumber refusal.Setting = 4
+refusalNumber (refusal.Request r) = requestNumber r
+
+-- 0 where nothing was refused
+abbrev pub outcomeNumber : Outcome → ℕ
+outcomeNumber outcome.Done = 0
+outcomeNumber (outcome.Taken p) = 0
+outcomeNumber (outcome.Refused r) = refusalNumber r
+
+-- "20 nothing, 21 to 27 above, and with a NAK 28 no length in T2, 29 gap in body, 30 bad length, 31 bad sum"
+abbrev pub noteNumber : Note → ℕ
+noteNumber note.Nothing = 20
+noteNumber (note.Block n) = blockNote n
+noteNumber note.NoLength = 28
+noteNumber note.Gap = 29
+noteNumber (note.Bad fault) = faultNote fault
+
+-- what the line told, as a note. The note of a block that went up is its judge's.
+abbrev pub noteBy : Event → Note
+noteBy event.Quiet = note.Nothing
+noteBy event.Sent = note.Nothing
+noteBy event.Failed = note.Nothing
+noteBy event.GaveWay = note.Nothing
+noteBy (event.Up n) = note.Nothing
+noteBy event.NoLength = note.NoLength
+noteBy event.Gap = note.Gap
+noteBy (event.Bad fault) = note.Bad fault

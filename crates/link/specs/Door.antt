@@ -1,0 +1,295 @@
+-- An onlooker at the door of the unit (demand 3). It sees which calls are made and whether they are refused, the bytes that leave, and
+-- whether a message is being sent or held then. Of the unit's state it sees nothing.
+use Prim.Native.Nat.{ℕ, _+_, _≤_, _<_}
+use mathlib.Core.Path.{_≡_}
+use mathlib.Core.Bool.{Bool, true, false, cond, _&&_, _||_}
+use mathlib.Core.List.{List, [], _∷_, _++_}
+use mathlib.Core.Logic.{_⊎_}
+use lib.Dec.{eqb}
+use lib.ListN.{length, take}
+use Rattle.settings.specs.declared.limits.Limits.{Limits}
+use Rattle.line.specs.Codes.{ENQ, EOT, ACK, NAK, bytesOut}
+use Rattle.line.specs.History as line
+use Rattle.line.specs.History.{Ours, none, enquired, leaving, left, Seen}
+use Rattle.line.specs.Theorems.{sendLimit, Counts, receiveLimit, patience}
+use Rattle.line.specs.declared.line.Line.{Line}
+use Rattle.exchange.specs.History as exchange
+use Rattle.link.specs.Run.{Left, blockBytes}
+use Rattle.link.specs.Reading.{sendingOf}
+use Rattle.link.specs.History.{Call, byte, tick, drained, primary, reply, free-own, free-incoming, called, Room, lentRoom, Made, cameTo, lineCalls, exchangeCalls, Track, answered, next, atStart}
+use Rattle.link.specs.Inside.{Reached}
+use Rattle.link.specs.declared.answer.Outcome.{Outcome}
+use Rattle.link.specs.declared.answer.Outcome.the-variants as outcome
+use Rattle.link.specs.declared.link.Link.{Link}
+
+-- ---- what leaves in a call: nothing, one or two codes, or a whole block, which is longer
+
+abbrev pub bytesLeft : Left → List ℕ
+bytesLeft l = take (l .answer .count) (l .out)
+
+-- code x alone
+abbrev pub alone : ℕ → List ℕ → Bool
+alone x [] = false
+alone x (a ∷ []) = eqb a x
+alone x (a ∷ b ∷ bs) = false
+
+-- ENQ, alone or behind another code
+abbrev pub endsInEnq : List ℕ → Bool
+endsInEnq [] = false
+endsInEnq (a ∷ []) = eqb a ENQ
+endsInEnq (a ∷ b ∷ []) = eqb b ENQ
+endsInEnq (a ∷ b ∷ c ∷ bs) = false
+
+-- ACK or NAK, alone or before another code
+abbrev pub answers : ℕ → Bool
+answers a = eqb a ACK || eqb a NAK
+
+abbrev pub closes : List ℕ → Bool
+closes [] = false
+closes (a ∷ []) = answers a
+closes (a ∷ b ∷ []) = answers a
+closes (a ∷ b ∷ c ∷ bs) = false
+
+abbrev pub isBlock : List ℕ → Bool
+isBlock [] = false
+isBlock (a ∷ []) = false
+isBlock (a ∷ b ∷ []) = false
+isBlock (a ∷ b ∷ c ∷ bs) = true
+
+-- what the calls of a line put out, one after the other, `block` being the bytes of a whole block
+unfoldable pub lineBytes : Limits → Line → List ℕ → List ℕ → List line.Call → List ℕ
+lineBytes c l rs block [] = []
+lineBytes c l rs block (k ∷ ks) =
+    bytesOut block (line.called c l rs k .step .out) ++ lineBytes c (line.called c l rs k .step .line) (line.called c l rs k .received) block ks
+
+-- ---- a block of ours
+
+-- a call as the onlooker of a line takes it: a byte, a tick, drained, or another
+abbrev pub kind : Call → line.Call
+kind (byte b fits) = line.byte b fits
+kind tick = line.tick
+kind drained = line.drained
+kind (primary q d) = line.ask
+kind (reply p f d) = line.ask
+kind (free-own p) = line.ask
+kind (free-incoming p) = line.ask
+
+-- a block is under way
+abbrev pub onWay : Ours → Bool
+onWay none = false
+onWay enquired = true
+onWay leaving = true
+onWay left = true
+
+-- none is where no message is being sent
+abbrev pub while : Bool → Ours → Ours
+while sending none = none
+while sending enquired = cond sending enquired none
+while sending leaving = cond sending leaving none
+while sending left = cond sending left none
+
+-- ENQ is out; the whole block is out; EOT is out, as it gave way; else it is where it was, or over
+abbrev pub oursAfter : Ours → line.Call → List ℕ → Bool → Ours
+oursAfter o k bs sending = cond (endsInEnq bs) enquired (cond (isBlock bs) leaving (cond (alone EOT bs) none (while sending (line.drains o k))))
+
+-- an ENQ is a block's first: none was under way, or the one before it is acknowledged in this call
+abbrev pub isFirst : Ours → line.Call → Bool
+isFirst none k = true
+isFirst enquired k = false
+isFirst leaving k = false
+isFirst left k = line.comes ACK k
+
+abbrev pub begins : Ours → line.Call → List ℕ → Bool
+begins o k bs = endsInEnq bs && isFirst o k
+
+-- ---- what the onlooker keeps, as that of a line does (line's specs/History.antt)
+
+pub record Watch : Type 0 where
+  pub ours : Ours
+  -- since a block's first ENQ: ticks spent waiting for EOT or ACK, and ENQs that left, the first among them
+  pub waited : ℕ
+  pub enqs : ℕ
+  -- from our EOT to our ACK or NAK
+  pub theirs : Bool
+  -- since our EOT: ticks, and the bytes that came
+  pub took : ℕ
+  pub came : List ℕ
+  -- ticks since the last of these bytes, or since our EOT if none has come
+  pub silent : ℕ
+
+abbrev pub nothingWatched : Watch
+nothingWatched = record { ours = none; waited = 0; enqs = 0; theirs = false; took = 0; came = []; silent = 0 }
+
+-- a call that is not refused
+abbrev pub sees : Watch → line.Call → List ℕ → Bool → Watch
+sees w k bs sending = record {
+  ours = oursAfter (w .ours) k bs sending;
+  waited = cond (begins (w .ours) k bs) 0 (line.waits (w .ours) (w .waited) k);
+  enqs = cond (begins (w .ours) k bs) 1 (cond (endsInEnq bs) (w .enqs + 1) (w .enqs));
+  theirs = cond (alone EOT bs) true (cond (closes bs) false (w .theirs));
+  took = cond (alone EOT bs) 0 (line.tookAfter (w .theirs) (w .took) k);
+  came = cond (alone EOT bs) [] (line.bytesAfter (w .theirs) (w .came) k);
+  silent = cond (alone EOT bs) 0 (line.silentAfter (w .theirs) (w .silent) k);
+}
+
+-- "a refused call is no tick and no byte in any rule or limit"
+abbrev pub seesBy : Outcome → Watch → line.Call → List ℕ → Bool → Watch
+seesBy outcome.Done w k bs sending = sees w k bs sending
+seesBy (outcome.Taken p) w k bs sending = sees w k bs sending
+seesBy (outcome.Refused r) w k bs sending = w
+
+abbrev pub accepted : Outcome → Bool
+accepted outcome.Done = true
+accepted (outcome.Taken p) = true
+accepted (outcome.Refused r) = false
+
+abbrev pub watches : Watch → Call → Left → Watch
+watches w k l = seesBy (l .answer .outcome) w (kind k) (bytesLeft l) (sendingOf (l .answer .link))
+
+-- along the calls that a track makes
+unfoldable pub watched : Watch → Track → List Made → Watch
+watched w t [] = w
+watched w t (m ∷ ms) = watched (watches w (m .call) (answered t m)) (next t m) ms
+
+-- what the onlooker of the line inside sees, without what is owed
+abbrev pub watchOf : Seen → Watch
+watchOf s = record {
+  ours = s .ours;
+  waited = s .waited;
+  enqs = s .enqs;
+  theirs = s .theirs;
+  took = s .took;
+  came = s .bytes;
+  silent = s .silent;
+}
+
+-- ---- what is proved of it
+
+-- what any calls leave, and what the onlooker at the door has seen of them
+pub record AtDoor (t : Track) (w : Watch) : Type 0 where
+  pub reached : Reached t
+  pub saw : watched nothingWatched (atStart (reached .settings) (reached .setup .last) (reached .room)) (reached .calls) ≡ w
+
+-- a statement on all that can be reached, and one on what is seen of it at the limits of the start
+abbrev pub Always : (Track → Watch → Type 0) → Type 0
+Always P = (t : Track) (w : Watch) → AtDoor t w → P t w
+
+abbrev pub AlwaysSees : (Limits → Watch → Type 0) → Type 0
+AlwaysSees P = (t : Track) (w : Watch) (a : AtDoor t w) → P (a .reached .settings .limits) w
+
+-- what leaves is what the line puts out by the calls that a call of the unit makes on it: first its step's, then, as it settles, the
+-- ENQ of a held block or of a message's next one; or the whole block. Every rule of line/specs/Rules.antt is so a rule of the door.
+abbrev pub LeavesByLine : Type 0
+LeavesByLine =
+    (u : Link) (room o : List ℕ) (k : Call)
+    → bytesLeft (called u room o k) ≡ lineBytes (u .settings .limits) (u .line) (u .received) (blockBytes u room) (lineCalls u room o k)
+
+-- it sees what the onlooker of the line inside sees, who is told each step of the line
+abbrev pub DoorRight : Type 0
+DoorRight = Always (λ t w. w ≡ watchOf (t .seen))
+
+-- demand 3: "A block send is over, or on the host side gives way to the tool, by the time (RTY + 1) x (2 x T2 + 1) ticks were spent
+-- waiting for EOT or ACK since its first ENQ; giving way starts that count anew."
+pub record SendWithin (c : Limits) (w : Watch) : Type 0 where
+  pub at-most : w .waited ≤ sendLimit c
+  pub over-by-then : w .waited ≡ sendLimit c → w .ours ≡ none
+  -- the first try, and RTY retries
+  pub no-more-enqs : onWay (w .ours) ≡ true → w .enqs ≤ c .rty + 1
+
+abbrev pub SendEnds : Type 0
+SendEnds = AlwaysSees SendWithin
+
+-- "tries equal the ENQs put out for it since its count started, less one": those that left
+abbrev pub TriesAreEnqs : Type 0
+TriesAreEnqs = Always (λ t w. Counts (t .link .line .phase) (w .enqs))
+
+abbrev pub made : Call → Room → List ℕ → Made
+made k room o = record { call = k; room = room; out = o }
+
+-- "EOT puts out the whole block": at the first attempt and at each further one. What its bytes are: `WholeBlock` (specs/Inside.antt).
+abbrev pub EachEnqItsBlock : Type 0
+EachEnqItsBlock =
+    Always (λ t w. w .ours ≡ enquired → (fits : EOT < 256) (room : Room) (o : List ℕ) → accepted (answered t (made (byte EOT fits) room o) .answer .outcome) ≡ true
+    → bytesLeft (answered t (made (byte EOT fits) room o)) ≡ blockBytes (t .link) (lentRoom room (t .room)))
+
+-- What ends a send, and nothing else does: ACK while it is waited for, where no block follows; as many ENQs as RTY allows; at the slave, an
+-- ENQ while EOT is waited for: EOT leaves, and the message is held. Otherwise none is being sent then.
+pub data Stops (c : Limits) (w : Watch) (k : line.Call) (bs : List ℕ) (sending : Bool) (after : Watch) : Type 0 where
+  sent : w .ours ≡ left → line.comes ACK k ≡ true → bs ≡ [] → sending ≡ false → Stops c w k bs sending after
+  failed : after .enqs ≡ c .rty + 1 → bs ≡ [] → sending ≡ false → Stops c w k bs sending after
+  gave-way : c .master ≡ false → w .ours ≡ enquired → line.comes ENQ k ≡ true → bs ≡ EOT ∷ [] → sending ≡ true → Stops c w k bs sending after
+
+abbrev pub SendEndsBy : Type 0
+SendEndsBy =
+    (t : Track) (w : Watch) (a : AtDoor t w) (m : Made) → onWay (w .ours) ≡ true → onWay (watches w (m .call) (answered t m) .ours) ≡ false
+    → Stops (a .reached .settings .limits) w (kind (m .call)) (bytesLeft (answered t m)) (sendingOf (next t m .link)) (watches w (m .call) (answered t m))
+
+-- "A held block .. : its ENQ leaves in the call that made the line idle": a message with no block under way waits for the end of a receive
+abbrev pub NoneForgotten : Type 0
+NoneForgotten = Always (λ t w. sendingOf (t .link) ≡ true → w .ours ≡ none → w .theirs ≡ true)
+
+-- "A receive in which b bytes came ends by tick T2 + b x T1 + 1."
+pub record ReceiveWithin (c : Limits) (w : Watch) : Type 0 where
+  pub at-most : w .took ≤ receiveLimit c (length (w .came))
+  pub over-by-then : w .took ≡ receiveLimit c (length (w .came)) → w .theirs ≡ false
+  -- the far end was silent no longer than it may be
+  pub not-late : w .theirs ≡ true → w .silent ≤ patience c (w .came)
+
+abbrev pub ReceiveEnds : Type 0
+ReceiveEnds = AlwaysSees ReceiveWithin
+
+-- ACK or NAK, and behind it the ENQ of a held block
+abbrev pub followed : ℕ → Bool → List ℕ
+followed x sending = x ∷ cond sending (ENQ ∷ []) []
+
+-- ACK leaves on a byte, NAK on the tick that exceeds the limit: no sooner
+abbrev pub OverBy : Limits → line.Call → List ℕ → Bool → Watch → Type 0
+OverBy c (line.byte b fits) bs sending after = bs ≡ followed ACK sending
+OverBy c line.tick bs sending after = (bs ≡ followed NAK sending) × (after .silent ≡ patience c (after .came) + 1)
+OverBy c line.drained bs sending after = ⊥
+OverBy c line.ask bs sending after = ⊥
+OverBy c line.settle bs sending after = ⊥
+
+abbrev pub ReceiveEndsBy : Type 0
+ReceiveEndsBy =
+    (t : Track) (w : Watch) (a : AtDoor t w) (m : Made) → closes (bytesLeft (answered t m)) ≡ true
+    → OverBy (a .reached .settings .limits) (kind (m .call)) (bytesLeft (answered t m)) (sendingOf (next t m .link)) (watches w (m .call) (answered t m))
+
+-- with a block held, 0605 or 1505: "its ENQ leaves in the call that made the line idle, after the ACK or NAK"
+abbrev pub HeldFollows : Type 0
+HeldFollows =
+    (t : Track) (w : Watch) → AtDoor t w → (m : Made) → closes (bytesLeft (answered t m)) ≡ true → sendingOf (next t m .link) ≡ true
+    → (bytesLeft (answered t m) ≡ ACK ∷ ENQ ∷ []) ⊎ (bytesLeft (answered t m) ≡ NAK ∷ ENQ ∷ [])
+
+-- ---- ticks
+
+abbrev pub ticksBy : Outcome → line.Call → ℕ
+ticksBy outcome.Done k = line.on k (λ b. 0) 1 0
+ticksBy (outcome.Taken p) k = line.on k (λ b. 0) 1 0
+ticksBy (outcome.Refused r) k = 0
+
+unfoldable pub lineTicks : List line.Call → ℕ
+lineTicks [] = 0
+lineTicks (k ∷ ks) = line.on k (λ b. 0) 1 0 + lineTicks ks
+
+abbrev pub exchangeTick : exchange.Call → ℕ
+exchangeTick (exchange.block h d) = 0
+exchangeTick exchange.tick = 1
+exchangeTick exchange.acknowledged = 0
+exchangeTick exchange.failed = 0
+exchangeTick (exchange.primary q d) = 0
+exchangeTick (exchange.reply p f d) = 0
+exchangeTick (exchange.free-own p) = 0
+exchangeTick (exchange.free-incoming p) = 0
+
+unfoldable pub exchangeTicks : List exchange.Call → ℕ
+exchangeTicks [] = 0
+exchangeTicks (k ∷ ks) = exchangeTick k + exchangeTicks ks
+
+-- a tick that is not refused is one tick of the line and one of the transactions, and no other call is
+pub record TicksOnce (u : Link) (room o : List ℕ) (k : Call) : Type 0 where
+  pub line : lineTicks (lineCalls u room o k) ≡ ticksBy (cameTo u room o k) (kind k)
+  pub exchange : exchangeTicks (exchangeCalls u room o k) ≡ ticksBy (cameTo u room o k) (kind k)
+
+abbrev pub TicksCounted : Type 0
+TicksCounted = (u : Link) (room o : List ℕ) (k : Call) → TicksOnce u room o k

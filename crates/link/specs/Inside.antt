@@ -1,0 +1,187 @@
+-- What is proved of the unit's inside, over every list of its calls from a start (`specs/History.antt`): the settings stay, the line goes
+-- through calls of a line and the transactions through calls of the transactions, the two agree on what is being sent, and no field
+-- leaves its range. Each proof is in `proofs/`.
+use Prim.Native.Nat.{ℕ, _≤_, _<_}
+use mathlib.Core.Path.{_≡_}
+use mathlib.Core.Bool.{Bool, true, false, _||_}
+use mathlib.Core.List.{List, [], _∷_}
+use mathlib.Core.Logic.{_≢_}
+use lib.ListN.{length}
+use Rattle.header.specs.declared.header.Header.{Header}
+use Rattle.cut.specs.Blocks.{blockCount, partStart, partLength, headerAt, cutOf}
+use Rattle.cut.specs.declared.Cut.the-variants as cut
+use Rattle.block.specs.Block.{blockOf}
+use Rattle.room.specs.Room.{bytesIn}
+use Rattle.room.specs.declared.Message.the-variants as message
+use Rattle.line.specs.History as line
+use Rattle.line.specs.Theorems.{Reached as LineReached}
+use Rattle.line.specs.declared.phase.Phase.{Phase}
+use Rattle.line.specs.declared.phase.Phase.the-variants.{Idle, WaitEot, Draining, WaitAck, WaitLength, Body, Silence}
+use Rattle.line.specs.declared.line.Line.{Line}
+use Rattle.line.specs.declared.step.Out.the-variants as out
+use Rattle.exchange.specs.History as exchange
+use Rattle.exchange.specs.Theorems.{Reached as ExchangeReached}
+use Rattle.exchange.specs.Watching.{OwnAt, IncomingAt}
+use Rattle.exchange.specs.Request.{isSending}
+use Rattle.exchange.specs.Send.{outgoingOf}
+use Rattle.exchange.specs.declared.send.Outgoing.the-variants as outgoing
+use Rattle.link.specs.Setup.{settledOf}
+use Rattle.link.specs.State.{linkInRange}
+use Rattle.link.specs.Run.{Left, blockBytes}
+use Rattle.link.specs.History.{Call, called, Room, kept, other, Made, hearing, cameTo, lineCalls, exchangeCalls, Track, lineTrack, exchangeTrack, limitsIn, termsIn, track, atStart}
+use Rattle.link.specs.declared.setup.Setup.{Setup}
+use Rattle.link.specs.declared.setup.Settings.{Settings}
+use Rattle.link.specs.declared.setup.Settled.the-variants as settled
+use Rattle.link.specs.declared.answer.Refusal.the-variants as refusal
+use Rattle.link.specs.declared.answer.Outcome.the-variants as outcome
+use Rattle.link.specs.declared.link.Link.{Link}
+
+-- ---- what can be reached
+
+-- what any calls leave of a unit whose start was not refused, with a room of 36,864 bytes: refused calls are among them, and calls
+-- that are lent another room
+pub record Reached (t : Track) : Type 0 where
+  pub setup : Setup
+  pub settings : Settings
+  pub started : settledOf setup ≡ settled.Settings settings
+  pub room : List ℕ
+  pub whole : length room ≡ 36864
+  pub calls : List Made
+  pub so : track (atStart settings (setup .last) room) calls ≡ t
+
+-- a statement on all that can be reached
+abbrev pub Always : (Track → Type 0) → Type 0
+Always P = (t : Track) → Reached t → P t
+
+-- "while the room comes back as the last call left it": another one that is lent is not 36,864 bytes, and nothing is done with it
+abbrev pub ComesBack : Room → Type 0
+ComesBack kept = Unit {0}
+ComesBack (other strange) = length strange ≢ 36864
+
+unfoldable pub Back : List Made → Type 0
+Back [] = Unit {0}
+Back (m ∷ ms) = ComesBack (m .room) × Back ms
+
+-- what can be reached while it does
+pub record ReachedBack (t : Track) : Type 0 where
+  pub reached : Reached t
+  pub back : Back (reached .calls)
+
+-- ---- the settings
+
+-- no call changes them
+abbrev pub SettingsKept : Type 0
+SettingsKept = (u : Link) (room o : List ℕ) (k : Call) → called u room o k .answer .link .settings ≡ u .settings
+
+-- so they are those of the start
+abbrev pub SettingsStay : Type 0
+SettingsStay = (t : Track) (w : Reached t) → t .link .settings ≡ w .settings
+
+-- ---- the line inside
+
+-- the line, and the received bytes beside it, are as these calls of a line leave them
+pub record LineLeft (t : line.Track) (u : Link) : Type 0 where
+  pub line : t .line ≡ u .line
+  pub received : t .received ≡ u .received
+
+-- the unit's line, with what an onlooker has seen of it
+abbrev pub lineOf : Link → line.Seen → line.Track
+lineOf u s = record { line = u .line; received = u .received; seen = s }
+
+-- a call of the unit does to its line what the calls do that it tells it, and no more
+abbrev pub LineGoes : Type 0
+LineGoes =
+    (u : Link) (room o : List ℕ) (k : Call) (s : line.Seen)
+    → LineLeft (line.track (u .settings .limits) (lineOf u s) (lineCalls u room o k)) (called u room o k .answer .link)
+
+-- so every theorem on a line (line/specs/Theorems.antt) holds of the unit's
+abbrev pub LineInside : Type 0
+LineInside = Always (λ t. LineReached (limitsIn t) (lineTrack t))
+
+-- ---- the transactions inside
+
+-- the transactions, and the room, are as these calls of the transactions leave them
+pub record ExchangeLeft (t : exchange.Track) (l : Left) : Type 0 where
+  pub exchange : t .exchange ≡ l .answer .link .exchange
+  pub room : t .room ≡ l .room
+
+abbrev pub exchangeOf : Link → List ℕ → exchange.Joined → exchange.Track
+exchangeOf u room j = record { exchange = u .exchange; room = room; seen = j }
+
+-- a call of the unit does to its transactions what the calls do that it tells them, and no more
+abbrev pub ExchangeGoes : Type 0
+ExchangeGoes =
+    (u : Link) (room o : List ℕ) (k : Call) (j : exchange.Joined)
+    → ExchangeLeft (exchange.track (u .settings .terms) (exchangeOf u room j) (exchangeCalls u room o k)) (called u room o k)
+
+-- the transactions, and what their onlooker has joined, are as their calls leave them on one room that comes back each time
+pub record InSomeRoom (t : Track) : Type 0 where
+  pub room : List ℕ
+  pub reached : ExchangeReached (termsIn t) (exchangeTrack t room)
+
+-- The transactions go by no byte of the room: so they are, whatever rooms are lent to the unit, and every theorem on their state
+-- (exchange/specs/Theorems.antt) holds of the unit's.
+abbrev pub ExchangeInside : Type 0
+ExchangeInside = Always InSomeRoom
+
+-- Each place, and what the unit's onlooker of it has seen, are as events at a place leave them: so every theorem on a place
+-- (place/specs/OwnTheorems.antt, place/specs/IncomingTheorems.antt) holds of the unit's.
+pub record Watched (t : Track) : Type 0 where
+  pub own : (p : ℕ) → p < 4 → OwnAt (termsIn t) p (t .link .exchange) (t .own p)
+  pub incoming : (p : ℕ) → p < 4 → IncomingAt (termsIn t) p (t .link .exchange) (t .incoming p)
+
+abbrev pub PlacesInside : Type 0
+PlacesInside = Always Watched
+
+-- ---- the line and the transactions agree
+
+-- a block of ours is under way: ENQ is out, the block is leaving, or ACK is waited for
+abbrev pub underWay : Phase → Bool
+underWay Idle = false
+underWay (WaitEot timer tries) = true
+underWay (Draining tries) = true
+underWay (WaitAck timer tries) = true
+underWay (WaitLength timer) = false
+underWay (Body timer a) = false
+underWay (Silence timer fault) = false
+
+-- "a message is being sent or held", as the line has it: a block is under way, or held
+abbrev pub busy : Line → Bool
+busy l = underWay (l .phase) || l .held
+
+-- To the line and to the transactions 7, "a message is being sent or held", means the same; and the block that is on its way or held
+-- is one of the message.
+pub record Agree (t : Track) : Type 0 where
+  pub same : isSending (t .link .exchange) ≡ busy (t .link .line)
+  -- a message of 4,096 bytes makes 17 blocks
+  pub first : 1 ≤ t .link .block
+  pub most : t .link .block ≤ 17
+  pub within : (h : Header) (n : ℕ) → outgoingOf (t .link .exchange) ≡ outgoing.Message h n → (t .link .block ≤ blockCount n) × (n ≤ 4096)
+
+abbrev pub Agrees : Type 0
+Agrees = Always Agree
+
+-- a message is being sent, and its block on its way is cut from it
+pub record Whole (t : Track) : Type 0 where
+  pub header : Header
+  pub size : ℕ
+  pub sent : outgoingOf (t .link .exchange) ≡ outgoing.Message header size
+  pub block :
+      cutOf header size (t .link .block) ≡ cut.Block (headerAt header size (t .link .block)) (partStart (t .link .block)) (partLength size (t .link .block))
+  -- its header, and its part of the send area
+  pub bytes :
+      (room : List ℕ)
+      → blockBytes (t .link) room ≡ blockOf (headerAt header size (t .link .block)) (bytesIn room message.Send (partStart (t .link .block)) (partLength size (t .link .block)))
+
+-- "EOT puts out the whole block": where the line has it put out, there is one
+abbrev pub WholeBlock : Type 0
+WholeBlock = Always (λ t. (b : ℕ) → hearing (t .link) b .step .out ≡ out.Block → Whole t)
+
+-- ---- ranges
+
+abbrev pub ReachedInRange : Type 0
+ReachedInRange = Always (λ t. linkInRange (t .link) ≡ true)
+
+-- refusal 3: "never for a state reached by calls from a start"
+abbrev pub NeverThree : Type 0
+NeverThree = Always (λ t. (room o : List ℕ) (k : Call) → cameTo (t .link) room o k ≢ outcome.Refused refusal.State)

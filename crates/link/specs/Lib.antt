@@ -1,0 +1,12 @@
+pub mod Setup
+pub mod Answer
+pub mod State
+pub mod Run
+pub mod Call
+pub mod Reading
+pub mod History
+pub mod Inside
+pub mod Door
+pub mod Refusals
+pub mod SameMessage
+pub mod Table

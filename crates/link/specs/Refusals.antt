@@ -1,0 +1,337 @@
+-- The refusals of the unit's calls: the rows 1 to 4 of 01's table in its words, those of the transactions (5 to 11, exchange's
+-- `specs/Refusals.antt`) behind them, in 01's order; what a refused call leaves; and what a call writes. Each proof is in `proofs/`.
+use Prim.Native.Nat.{ℕ, _*_, _≤_, _<_}
+use mathlib.Core.Path.{_≡_}
+use mathlib.Core.Bool.{Bool, true, false, not}
+use mathlib.Core.List.{List, []}
+use mathlib.Core.Logic.{_↔_, _≢_}
+use lib.Dec.{eqb}
+use lib.ListN.{length, take, drop}
+use Rattle.wire.specs.Bytes.{part}
+use Rattle.header.specs.Header.{firstTen, headerOf}
+use Rattle.header.specs.declared.header.Header.{Header}
+use Rattle.room.specs.Room.{keptIn}
+use Rattle.room.specs.declared.Message.{Message}
+use Rattle.room.specs.declared.Message.the-variants as message
+use Rattle.line.specs.Line.{askOf, settleOf}
+use Rattle.line.specs.Range.{lineInRange}
+use Rattle.line.specs.declared.phase.Arrival.{Arrival}
+use Rattle.line.specs.declared.phase.Phase.{Phase}
+use Rattle.line.specs.declared.phase.Phase.the-variants.{Idle, WaitEot, Draining, WaitAck, WaitLength, Body, Silence}
+use Rattle.line.specs.declared.line.Line.{Line}
+use Rattle.line.specs.declared.step.Out.the-variants as out
+use Rattle.line.specs.declared.step.Event.the-variants as event
+use Rattle.place.specs.Range.{ownInRange, incomingInRange}
+use Rattle.place.specs.declared.own.OwnStage.{OwnStage}
+use Rattle.place.specs.declared.own.OwnStage.the-variants as own
+use Rattle.place.specs.declared.own.Own.{Own}
+use Rattle.place.specs.declared.incoming.IncomingStage.{IncomingStage}
+use Rattle.place.specs.declared.incoming.IncomingStage.the-variants as incoming
+use Rattle.place.specs.declared.incoming.Incoming.{Incoming}
+use Rattle.exchange.specs.Exchange.{ownPlace, incomingPlace}
+use Rattle.exchange.specs.Flags.{noFlags}
+use Rattle.exchange.specs.Range.{sendingInRange}
+use Rattle.exchange.specs.Rules.{Fours, LowestAt, OfReply, OfMessage, ReplyHere, MessageHere, AlikeAt, AlikeHere, FreeAt, bytesBefore}
+use Rattle.exchange.specs.Refusals.{NoVerdict, NotReady, OpenRuled, ReplyRuled, ReleaseRuled}
+use Rattle.exchange.specs.declared.exchange.Sending.{Sending}
+use Rattle.exchange.specs.declared.exchange.Sending.the-variants as sending
+use Rattle.exchange.specs.declared.exchange.Exchange.{Exchange}
+use Rattle.link.specs.Answer.{outcomeNumber, noteNumber}
+use Rattle.link.specs.Setup.{noSettings, settingsInRange}
+use Rattle.link.specs.State.{freshLink, refusedAs, linkInRange, startOf}
+use Rattle.link.specs.Run.{Left, left, codes, byteTurn, tickTurn, drainedTurn}
+use Rattle.link.specs.History.{Call, byte, tick, drained, primary, reply, free-own, free-incoming, called, unlessRefused, hearing, cameTo}
+use Rattle.link.specs.declared.setup.Setup.{Setup}
+use Rattle.link.specs.declared.setup.Settings.{Settings}
+use Rattle.link.specs.declared.answer.Refusal.{Refusal}
+use Rattle.link.specs.declared.answer.Refusal.the-variants as refusal
+use Rattle.link.specs.declared.answer.Outcome.the-variants as outcome
+use Rattle.link.specs.declared.answer.Answer.{Answer}
+use Rattle.link.specs.declared.link.Link.{Link}
+
+-- ---- "A refusal reports 0 bytes out, note 20, state and memory untouched."
+
+pub record Untouched (u : Link) (room o : List ℕ) (l : Left) : Type 0 where
+  -- "0 bytes out"
+  pub count : l .answer .count ≡ 0
+  -- "note 20"
+  pub note : noteNumber (l .answer .note) ≡ 20
+  -- nor does any place get a verdict, complete or drop out
+  pub flags : l .answer .flags ≡ noFlags
+  -- "state .. untouched"
+  pub state : l .answer .link ≡ u
+  -- "memory untouched"
+  pub bytes : l .room ≡ room
+  pub output : l .out ≡ o
+
+-- All that a refused call leaves, in one equation, and the same by its parts.
+pub record RefusedAs (u : Link) (room o : List ℕ) (r : Refusal) (l : Left) : Type 0 where
+  pub whole : l ≡ left (refusedAs u r) room o
+  pub parts : Untouched u room o l
+
+abbrev pub RefusedChangesNothing : Type 0
+RefusedChangesNothing =
+    (u : Link) (room o : List ℕ) (k : Call) (r : Refusal) → cameTo u room o k ≡ outcome.Refused r → RefusedAs u room o r (called u room o k)
+
+-- ---- the ranges of docs/STATE.md, field by field; a field that is not named here has the range of its type
+
+pub record SettingsFit (s : Settings) : Type 0 where
+  pub t1-least : 1 ≤ s .limits .t1 .0
+  pub t1-most : s .limits .t1 .0 ≤ 100
+  pub t2-least : 2 ≤ s .limits .t2 .0
+  pub t2-most : s .limits .t2 .0 ≤ 250
+  pub rty-most : s .limits .rty ≤ 31
+  pub t3-least : 10 ≤ s .terms .t3 .0
+  pub t3-most : s .terms .t3 .0 ≤ 1200
+  pub t4-least : 10 ≤ s .terms .t4 .0
+  pub t4-most : s .terms .t4 .0 ≤ 1200
+  pub device-most : s .terms .device ≤ 32767
+
+-- of a body: its timer, N, how many bytes have come, and their sum
+pub record ArrivalFits (timer : ℕ) (a : Arrival) : Type 0 where
+  pub timer-most : timer ≤ 100
+  pub length-least : 10 ≤ a .length
+  pub length-most : a .length ≤ 254
+  pub got-most : a .got ≤ 255
+  pub sum-most : a .sum ≤ 64770
+
+abbrev pub PhaseFits : Phase → Type 0
+PhaseFits Idle = Unit {0}
+PhaseFits (WaitEot timer tries) = (timer ≤ 250) × (tries ≤ 31)
+PhaseFits (Draining tries) = tries ≤ 31
+PhaseFits (WaitAck timer tries) = (timer ≤ 250) × (tries ≤ 31)
+PhaseFits (WaitLength timer) = timer ≤ 250
+PhaseFits (Body timer a) = ArrivalFits timer a
+PhaseFits (Silence timer fault) = timer ≤ 100
+
+abbrev pub LineFits : Line → Type 0
+LineFits l = PhaseFits (l .phase)
+
+-- of a message whose blocks come: its timer, the next number, and its data bytes
+pub record OpenFits (timer next n : ℕ) : Type 0 where
+  pub timer-most : timer ≤ 1200
+  pub next-most : next ≤ 4097
+  pub length-most : n ≤ 4096
+
+abbrev pub OwnStageFits : OwnStage → Type 0
+OwnStageFits own.Free = Unit {0}
+OwnStageFits own.Sending = Unit {0}
+OwnStageFits (own.Awaiting timer) = timer ≤ 1200
+OwnStageFits (own.Replying timer next r) = OpenFits timer next (r .length)
+OwnStageFits (own.Done v r) = r .length ≤ 4096
+
+abbrev pub OwnFits : Own → Type 0
+OwnFits o = OwnStageFits (o .stage)
+
+abbrev pub IncomingStageFits : IncomingStage → Type 0
+IncomingStageFits incoming.Free = Unit {0}
+IncomingStageFits (incoming.Open timer next n) = OpenFits timer next n
+IncomingStageFits (incoming.Complete n) = n ≤ 4096
+IncomingStageFits (incoming.Replying n) = n ≤ 4096
+IncomingStageFits (incoming.Replied n e) = n ≤ 4096
+
+abbrev pub IncomingFits : Incoming → Type 0
+IncomingFits i = IncomingStageFits (i .stage)
+
+-- the place and the data bytes of the message being sent
+abbrev pub SendingFits : Sending → Type 0
+SendingFits sending.Nothing = Unit {0}
+SendingFits (sending.Primary p n) = (p ≤ 3) × (n ≤ 4096)
+SendingFits (sending.Reply p f n) = (p ≤ 3) × (n ≤ 4096)
+
+pub record Fits (u : Link) : Type 0 where
+  pub block-least : 1 ≤ u .block
+  pub block-most : u .block ≤ 17
+  pub settings : SettingsFit (u .settings)
+  pub line : LineFits (u .line)
+  pub own : (p : ℕ) → p < 4 → OwnFits (ownPlace (u .exchange) p)
+  pub incoming : (p : ℕ) → p < 4 → IncomingFits (incomingPlace (u .exchange) p)
+  pub sending : SendingFits (u .exchange .sending)
+
+-- The tests that the unit makes of its parts ask for these ranges, and no more.
+pub record RangesExactly : Type 0 where
+  pub settings : (s : Settings) → settingsInRange s ≡ true ↔ SettingsFit s
+  pub line : (l : Line) → lineInRange l ≡ true ↔ LineFits l
+  pub own : (o : Own) → ownInRange o ≡ true ↔ OwnFits o
+  pub incoming : (i : Incoming) → incomingInRange i ≡ true ↔ IncomingFits i
+  pub sending : (s : Sending) → sendingInRange s ≡ true ↔ SendingFits s
+  pub all : (u : Link) → linkInRange u ≡ true ↔ Fits u
+
+-- ---- the rows
+
+-- a release is lent no memory
+abbrev pub lends : Call → Bool
+lends (byte b fits) = true
+lends tick = true
+lends drained = true
+lends (primary q d) = true
+lends (reply p f d) = true
+lends (free-own p) = false
+lends (free-incoming p) = false
+
+-- 1: "output buffer under 257 bytes"
+pub record OutputShort (k : Call) (o : List ℕ) : Type 0 where
+  pub lent : lends k ≡ true
+  pub short : length o < 257
+
+-- 2: "room not 36,864 bytes"
+pub record RoomWrong (k : Call) (room : List ℕ) : Type 0 where
+  pub lent : lends k ≡ true
+  pub wrong : length room ≢ 36864
+
+-- 3: "state with a field outside the ranges listed in docs/"
+abbrev pub OutOfRange : Link → Type 0
+OutOfRange u = Fits u → ⊥
+
+-- a call that is refused by none of 1, 2 and 3
+pub record Passes (u : Link) (room o : List ℕ) (k : Call) : Type 0 where
+  pub not-short : OutputShort k o → ⊥
+  pub not-wrong : RoomWrong k room → ⊥
+  pub fits : Fits u
+
+-- The rows behind 3: "then 9, 10, 11, 5, 6, 7, 8", those of the transactions. A byte, a tick and drained have none; 4 is a start's.
+abbrev pub RuledBehind : Link → Call → ℕ → Type 0
+RuledBehind u (byte b fits) n = n ≡ 0
+RuledBehind u tick n = n ≡ 0
+RuledBehind u drained n = n ≡ 0
+RuledBehind u (primary q d) n = OpenRuled (u .exchange) q d n
+RuledBehind u (reply p f d) n = ReplyRuled (u .exchange) p f d n
+RuledBehind u (free-own p) n = ReleaseRuled (NoVerdict (u .exchange) p) n
+RuledBehind u (free-incoming p) n = ReleaseRuled (NotReady (u .exchange) p) n
+
+-- "Order: 1, 2, 3, .. then" those; 0 is no refusal
+pub data Ruled (u : Link) (room o : List ℕ) (k : Call) : ℕ → Type 0 where
+  ruled-1 : OutputShort k o → Ruled u room o k 1
+  ruled-2 : (OutputShort k o → ⊥) → RoomWrong k room → Ruled u room o k 2
+  ruled-3 : (OutputShort k o → ⊥) → (RoomWrong k room → ⊥) → OutOfRange u → Ruled u room o k 3
+  ruled-behind : {n : ℕ} → Passes u room o k → RuledBehind u k n → Ruled u room o k n
+
+-- Each number exactly when its row says so and no earlier one does.
+abbrev pub RefusalTable : Type 0
+RefusalTable =
+    (u : Link) (room o : List ℕ) (k : Call) → Fours (u .exchange) → (n : ℕ) → (outcomeNumber (cameTo u room o k) ≡ n) ↔ Ruled u room o k n
+
+-- ---- the start: 4
+
+-- 01's table of settings
+pub record SetupFits (s : Setup) : Type 0 where
+  pub t1-least : 1 ≤ s .t1 .0
+  pub t1-most : s .t1 .0 ≤ 100
+  pub t2-least : 1 ≤ s .t2 .0
+  pub t2-most : s .t2 .0 ≤ 125
+  pub t3-least : 1 ≤ s .t3 .0
+  pub t3-most : s .t3 .0 ≤ 120
+  pub t4-least : 1 ≤ s .t4 .0
+  pub t4-most : s .t4 .0 ≤ 120
+  pub rty-most : s .rty ≤ 31
+  pub device-most : s .device ≤ 32767
+  -- "duplicate check on/off 0, 1"
+  pub check-most : s .duplicates ≤ 1
+
+-- 4: "setting out of range"; else 0
+pub data StartRuled (s : Setup) : ℕ → Type 0 where
+  start-4 : (SetupFits s → ⊥) → StartRuled s 4
+  start-0 : SetupFits s → StartRuled s 0
+
+-- "The unit counts ticks of 0.1 s": panel steps of T1 are 0.1 s, of T2 0.2 s, of T3 and T4 1 s. "host = slave, equipment = master"
+abbrev pub inTicks : Setup → Settings
+inTicks s = record {
+  limits = record { t1 = record { 0 = s .t1 .0 }; t2 = record { 0 = s .t2 .0 * 2 }; rty = s .rty; master = not (s .host) };
+  terms = record {
+    t3 = record { 0 = s .t3 .0 * 10 };
+    t4 = record { 0 = s .t4 .0 * 10 };
+    device = s .device;
+    duplicates = eqb (s .duplicates) 1;
+    host = s .host;
+  };
+}
+
+-- an accepted start: a fresh unit, and nothing else to tell
+pub record Started (s : Setup) (a : Answer) : Type 0 where
+  pub link : a .link ≡ freshLink (inTicks s) (s .last)
+  pub done : a .outcome ≡ outcome.Done
+  pub count : a .count ≡ 0
+  pub note : noteNumber (a .note) ≡ 20
+  pub flags : a .flags ≡ noFlags
+
+-- a refused one: what it hands back is no unit to go on with, for 3 refuses every call on it that 1 and 2 do not
+pub record NotStarted (a : Answer) : Type 0 where
+  pub refused : a ≡ refusedAs (freshLink noSettings 0) refusal.Setting
+  pub no-unit : linkInRange (a .link) ≡ false
+  pub three :
+      (room o : List ℕ) (k : Call) → (OutputShort k o → ⊥) → (RoomWrong k room → ⊥) → cameTo (a .link) room o k ≡ outcome.Refused refusal.State
+
+pub record StartExactly : Type 0 where
+  pub number : (s : Setup) (n : ℕ) → (outcomeNumber (startOf s .outcome) ≡ n) ↔ StartRuled s n
+  pub accepted : (s : Setup) → SetupFits s → Started s (startOf s)
+  pub refused : (s : Setup) → (SetupFits s → ⊥) → NotStarted (startOf s)
+
+-- ---- "A call writes only the output bytes it reports and the area bytes it fills."
+
+-- the bytes that leave with a message that is accepted: the ENQ of its first block, if the line is idle
+abbrev pub asking : Link → List ℕ
+asking u = codes out.Nothing (settleOf (askOf (u .line)) .out)
+
+-- those that leave in a call that is not refused
+abbrev pub leaving : Link → List ℕ → Call → List ℕ
+leaving u room (byte b fits) = byteTurn u b room .bytes
+leaving u room tick = tickTurn u room .bytes
+leaving u room drained = drainedTurn u room .bytes
+leaving u room (primary q d) = asking u
+leaving u room (reply p f d) = asking u
+leaving u room (free-own p) = []
+leaving u room (free-incoming p) = []
+
+-- these bytes were put at the output's front, and the call reports as many
+pub record WritesOutput (bs o : List ℕ) (l : Left) : Type 0 where
+  pub count : l .answer .count ≡ length bs
+  -- two codes, or a block of 254 bytes with its length and sum
+  pub most : l .answer .count ≤ 257
+  pub within : l .answer .count ≤ length o
+  pub front : take (l .answer .count) (l .out) ≡ bs
+  -- "only the output bytes it reports"
+  pub beyond : drop (l .answer .count) (l .out) ≡ drop (l .answer .count) o
+  pub size : length (l .out) ≡ length o
+
+-- the area of the message that a block with this header is of, or begins
+pub data AreaOf (x : Exchange) (b : Header) : Message → Type 0 where
+  of-reply : (p : ℕ) → LowestAt (λ q. OfReply (ownPlace x q) b) p → AreaOf x b (message.Reply p)
+  of-message : (p : ℕ) → (ReplyHere x b → ⊥) → LowestAt (λ q. OfMessage (incomingPlace x q) b) p → AreaOf x b (message.Incoming p)
+  -- "throws that one out and takes its place"
+  of-alike : (p : ℕ) → (ReplyHere x b → ⊥) → (MessageHere x b → ⊥) → LowestAt (AlikeAt x b) p → AreaOf x b (message.Incoming p)
+  -- "Otherwise it takes the lowest free incoming place"
+  of-free :
+      (p : ℕ) → (ReplyHere x b → ⊥) → (MessageHere x b → ⊥) → (AlikeHere x b → ⊥) → LowestAt (FreeAt x) p → AreaOf x b (message.Incoming p)
+
+-- the header of the block that a byte ended
+abbrev pub headerHeard : Link → ℕ → Header
+headerHeard u b = headerOf (firstTen (hearing u b .received))
+
+-- the block went up, and its data was kept behind what its message had
+pub record BlockKept (u : Link) (b : ℕ) (room after : List ℕ) : Type 0 where
+  pub size : ℕ
+  pub up : hearing u b .step .event ≡ event.Up size
+  pub area : Message
+  pub of : AreaOf (u .exchange) (headerHeard u b) area
+  pub kept : after ≡ keptIn room area (bytesBefore (u .exchange) (headerHeard u b)) (part 10 size (hearing u b .received))
+
+-- What a call that is not refused leaves of the room: every byte; or its data is put anew into one area, "the area bytes it fills", and
+-- no other byte changes (`KeepsOnly` in room's `specs/Theorems.antt`). Note 21 is that of a block that is kept.
+abbrev pub FillsRoom : Link → List ℕ → Call → Answer → List ℕ → Type 0
+FillsRoom u room (byte b fits) a after =
+    (noteNumber (a .note) ≢ 21 → after ≡ room) × (noteNumber (a .note) ≡ 21 → Fours (u .exchange) → BlockKept u b room after)
+FillsRoom u room tick a after = after ≡ room
+FillsRoom u room drained a after = after ≡ room
+FillsRoom u room (primary q d) a after = after ≡ keptIn room message.Send 0 d
+FillsRoom u room (reply p f d) a after = after ≡ keptIn room message.Send 0 d
+FillsRoom u room (free-own p) a after = after ≡ room
+FillsRoom u room (free-incoming p) a after = after ≡ room
+
+pub record Writes (u : Link) (room o : List ℕ) (k : Call) (l : Left) : Type 0 where
+  pub output : WritesOutput (unlessRefused (l .answer .outcome) (leaving u room k)) o l
+  pub size : length (l .room) ≡ length room
+  pub refused : outcomeNumber (l .answer .outcome) ≢ 0 → l .room ≡ room
+  pub accepted : outcomeNumber (l .answer .outcome) ≡ 0 → FillsRoom u room k (l .answer) (l .room)
+
+abbrev pub WritesOnly : Type 0
+WritesOnly = (u : Link) (room o : List ℕ) (k : Call) → Writes u room o k (called u room o k)

@@ -1,0 +1,86 @@
+-- The unit's state: a fresh one, its ranges (docs/STATE.md), what changes a part of it, and what a refused call answers.
+use Prim.Native.Nat.{ℕ}
+use mathlib.Core.Bool.{Bool, true, false, cond, _&&_}
+use mathlib.Core.List.{List}
+use lib.Dec.{eqb, ltb, leb}
+use lib.ListN.{replicate, length}
+use Rattle.settings.specs.Panel.{between}
+use Rattle.room.specs.Room.{roomSize}
+use Rattle.line.specs.Line.{freshLine}
+use Rattle.line.specs.Range.{lineInRange}
+use Rattle.line.specs.declared.line.Line.{Line}
+use Rattle.exchange.specs.Exchange.{freshExchange}
+use Rattle.exchange.specs.Range.{exchangeInRange}
+use Rattle.exchange.specs.Flags.{noFlags}
+use Rattle.exchange.specs.declared.flags.Flags.{Flags}
+use Rattle.exchange.specs.declared.exchange.Exchange.{Exchange}
+use Rattle.link.specs.Setup.{settledOf, noSettings, settingsInRange}
+use Rattle.link.specs.declared.setup.Setup.{Setup}
+use Rattle.link.specs.declared.setup.Settings.{Settings}
+use Rattle.link.specs.declared.setup.Settled.{Settled}
+use Rattle.link.specs.declared.setup.Settled.the-variants as settled
+use Rattle.link.specs.declared.answer.Refusal.{Refusal}
+use Rattle.link.specs.declared.answer.Refusal.the-variants as refusal
+use Rattle.link.specs.declared.answer.Outcome.{Outcome}
+use Rattle.link.specs.declared.answer.Outcome.the-variants as outcome
+use Rattle.link.specs.declared.answer.Note.{Note}
+use Rattle.link.specs.declared.answer.Note.the-variants as note
+use Rattle.link.specs.declared.answer.Answer.{Answer}
+use Rattle.link.specs.declared.gate.Gate.{Gate}
+use Rattle.link.specs.declared.gate.Gate.the-variants as gate
+use Rattle.link.specs.declared.link.Link.{Link}
+
+-- the line idle, no place in use
+abbrev pub freshLink : Settings → ℕ → Link
+freshLink s last = record { settings = s; line = freshLine; received = replicate 256 0; exchange = freshExchange last; block = 1 }
+
+-- ---- one part changed
+
+abbrev pub withLine : Link → Line → Link
+withLine u l = record { settings = u .settings; line = l; received = u .received; exchange = u .exchange; block = u .block }
+
+abbrev pub withHeard : Link → Line → List ℕ → Link
+withHeard u l rs = record { settings = u .settings; line = l; received = rs; exchange = u .exchange; block = u .block }
+
+abbrev pub withExchange : Link → Exchange → Link
+withExchange u x = record { settings = u .settings; line = u .line; received = u .received; exchange = x; block = u .block }
+
+abbrev pub withBlock : Link → ℕ → Link
+withBlock u k = record { settings = u .settings; line = u .line; received = u .received; exchange = u .exchange; block = k }
+
+-- ---- refusals
+
+-- "A refusal reports 0 bytes out, note 20, state and memory untouched."
+abbrev pub answerAs : Link → ℕ → Outcome → Note → Flags → Answer
+answerAs u n o t f = record { link = u; outcome = o; count = n; note = t; flags = f }
+
+abbrev pub refusedAs : Link → Refusal → Answer
+refusedAs u r = answerAs u 0 (outcome.Refused r) note.Nothing noFlags
+
+-- "a field outside the ranges listed in docs/"
+unfoldable pub linkInRange : Link → Bool
+linkInRange u = between 1 (u .block) 17 && (settingsInRange (u .settings) && (lineInRange (u .line) && exchangeInRange (u .exchange)))
+
+-- 1: "output buffer under 257 bytes"
+unfoldable pub outputShort : ℕ → Bool
+outputShort out = ltb out 257
+
+-- 2: "room not 36,864 bytes"
+unfoldable pub roomFits : ℕ → Bool
+roomFits room = eqb room roomSize
+
+-- "Order: 1, 2, 3": by the state, and by how many bytes of room and output are lent
+unfoldable pub gateOf : Link → ℕ → ℕ → Gate
+gateOf u room out =
+    cond (outputShort out) (gate.Shut refusal.OutputShort)
+    (cond (roomFits room) (cond (linkInRange u) gate.Open (gate.Shut refusal.State)) (gate.Shut refusal.RoomSize))
+
+-- ---- the start
+
+-- a refused start hands back a unit whose settings are out of their ranges: every call refuses it by 3
+abbrev pub startBy : Settled → ℕ → Answer
+startBy (settled.Settings s) last = answerAs (freshLink s last) 0 outcome.Done note.Nothing noFlags
+startBy settled.OutOfRange last = refusedAs (freshLink noSettings 0) refusal.Setting
+
+abbrev pub startOf : Setup → Answer
+startOf s = startBy (settledOf s) (s .last)
