@@ -33,6 +33,8 @@ use Rattle.exchange.proofs.exchange.Exchange.in_range.Reads as in-range
 use Rattle.exchange.proofs.exchange.Exchange.in_range.Kinds as in-range-kinds
 use Rattle.exchange.proofs.exchange.Exchange.is_sending.Reads as is-sending-reads
 use Rattle.exchange.proofs.exchange.Exchange.is_sending.Kinds as is-sending-kinds
+use Rattle.exchange.proofs.exchange.Exchange.is_still.Reads as is-still-reads
+use Rattle.exchange.proofs.exchange.Exchange.is_still.Kinds as is-still-kinds
 use Rattle.exchange.proofs.flags.Flags.none.Reads as no-flags-reads
 use Rattle.exchange.proofs.flags.Flags.none.Kinds as no-flags-kinds
 use Rattle.exchange.proofs.note.Note.number.Reads as note-number-reads
@@ -90,3 +92,6 @@ is-sending-determined κs a = (tt, λ x y s t p q. p ∙ sym q)
 
 pub no-flags-determined : Determined 0 no-flags-kinds.ps no-flags-kinds.r no-flags-reads.Asked no-flags-reads.Post (λ κs r s. r)
 no-flags-determined κs a = (tt, λ x y s t p q. p ∙ sym q)
+
+pub is-still-determined : Determined 0 is-still-kinds.ps is-still-kinds.r is-still-reads.Asked is-still-reads.Post (λ κs r s. r)
+is-still-determined κs a = (tt, λ x y s t p q. p ∙ sym q)

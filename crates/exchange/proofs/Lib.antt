@@ -31,3 +31,4 @@ pub mod Growing
 pub mod Assembling
 pub mod Answering
 pub mod Determined
+pub mod Stilling

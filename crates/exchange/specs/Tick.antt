@@ -1,14 +1,18 @@
 -- A tick: "own places 0 to 3, then incoming places 0 to 3" (01, "Messages").
 use Prim.Native.Nat.{ℕ}
-use mathlib.Core.Bool.{Bool, _&&_}
+use mathlib.Core.Path.{_≡_}
+use mathlib.Core.Bool.{Bool, true, false, not, _&&_, _||_}
 use mathlib.Core.List.{List, [], _∷_}
+use lib.ListN.{length}
 use Rattle.settings.specs.declared.terms.Terms.{Terms}
 use Rattle.place.specs.Incoming.{incomingIsFree, incomingIsOpen}
+use Rattle.place.specs.declared.own.OwnStage.{OwnStage}
+use Rattle.place.specs.declared.own.OwnStage.the-variants as own
 use Rattle.place.specs.declared.own.Own.{Own}
 use Rattle.place.specs.declared.incoming.Incoming.{Incoming}
 use Rattle.table.specs.Own.{ownAt, tickedOwn}
 use Rattle.table.specs.Incoming.{incomingAt, tickedIncoming}
-use Rattle.exchange.specs.Flags.{noMarks}
+use Rattle.exchange.specs.Flags.{noMarks, noFlags}
 use Rattle.exchange.specs.Exchange.{gotVerdict, latestAfter}
 use Rattle.exchange.specs.declared.exchange.Exchange.{Exchange}
 use Rattle.exchange.specs.declared.tick.Told.{Told}
@@ -51,3 +55,32 @@ tickOf c x = record {
     dropped = goneMarks (x .incoming) (tickedIncoming c (x .incoming));
   };
 }
+
+-- ---- a tick at which no timer runs
+
+-- T3 or T4 runs at an own place
+abbrev pub timedAt : OwnStage → Bool
+timedAt own.Free = false
+timedAt own.Sending = false
+timedAt (own.Awaiting timer) = true
+timedAt (own.Replying timer next r) = true
+timedAt (own.Done v r) = false
+
+abbrev pub ownTimed : Own → Bool
+ownTimed o = timedAt (o .stage)
+
+unfoldable pub ownsTimed : List Own → Bool
+ownsTimed os = ownTimed (ownAt os 0) || (ownTimed (ownAt os 1) || (ownTimed (ownAt os 2) || ownTimed (ownAt os 3)))
+
+-- T4 runs while a message is open
+unfoldable pub incomingsTimed : List Incoming → Bool
+incomingsTimed is =
+    incomingIsOpen (incomingAt is 0) || (incomingIsOpen (incomingAt is 1) || (incomingIsOpen (incomingAt is 2) || incomingIsOpen (incomingAt is 3)))
+
+unfoldable pub isStill : Exchange → Bool
+isStill x = not (ownsTimed (x .own)) && not (incomingsTimed (x .incoming))
+
+-- such a tick changes nothing and raises no flag
+abbrev pub StillTick : Type 0
+StillTick =
+    (c : Terms) (x : Exchange) → length (x .own) ≡ 4 → length (x .incoming) ≡ 4 → isStill x ≡ true → tickOf c x ≡ record { exchange = x; flags = noFlags }

@@ -1,6 +1,6 @@
 // A tick: "own places 0 to 3, then incoming places 0 to 3" (01, "Messages").
 ghost use mathlib.Core.Path.{_≡_};
-ghost use Rattle.exchange.specs.Tick.{gotMarks, goneMarks, latestOver, tickOf, wasDropped};
+ghost use Rattle.exchange.specs.Tick.{gotMarks, goneMarks, incomingsTimed, isStill, latestOver, ownTimed, ownsTimed, tickOf, wasDropped};
 use crate::exchange::Exchange;
 use crate::exchange::Numbers;
 use crate::exchange::got_verdict;
@@ -8,6 +8,7 @@ use crate::exchange::latest_after;
 use crate::flags::Flags;
 use place::Incoming;
 use place::Own;
+use place::OwnStage;
 use settings::Terms;
 use table::incoming_at;
 use table::own_at;
@@ -62,7 +63,70 @@ fn gone_marks(before: [Incoming; 4], after: [Incoming; 4]) -> [bool; 4]
     ]
 }
 
+// Whether a timer runs at an own place: T3 or T4.
+fn is_timed(place: Own) -> bool
+    ensures { λ r. ⌜ r ≡ ownTimed place ⌝ }
+{
+    let stage = place.stage;
+    match stage {
+        OwnStage::Free => false,
+        OwnStage::Sending => false,
+        OwnStage::Awaiting { timer: _ } => true,
+        OwnStage::Replying {
+            timer: _,
+            next: _,
+            reply: _,
+        } => true,
+        OwnStage::Done {
+            verdict: _,
+            reply: _,
+        } => false,
+    }
+}
+
+fn owns_timed(own: [Own; 4]) -> bool
+    ensures { λ r. ⌜ r ≡ ownsTimed own ⌝ }
+{
+    if is_timed(own_at(own, 0)) {
+        return true;
+    }
+    if is_timed(own_at(own, 1)) {
+        return true;
+    }
+    if is_timed(own_at(own, 2)) {
+        return true;
+    }
+    is_timed(own_at(own, 3))
+}
+
+fn incomings_timed(incoming: [Incoming; 4]) -> bool
+    ensures { λ r. ⌜ r ≡ incomingsTimed incoming ⌝ }
+{
+    if incoming_at(incoming, 0).is_open() {
+        return true;
+    }
+    if incoming_at(incoming, 1).is_open() {
+        return true;
+    }
+    if incoming_at(incoming, 2).is_open() {
+        return true;
+    }
+    incoming_at(incoming, 3).is_open()
+}
+
 impl Exchange {
+    // Whether no timer runs: then a tick changes nothing.
+    pub fn is_still(self) -> bool
+        ensures { λ r. ⌜ r ≡ isStill self ⌝ }
+    {
+        let own = self.own;
+        let incoming = self.incoming;
+        if owns_timed(own) {
+            return false;
+        }
+        !incomings_timed(incoming)
+    }
+
     // 0.1 s have passed.
     pub fn tick(self, terms: Terms) -> Told
         ensures { λ r. ⌜ r ≡ tickOf terms self ⌝ }

@@ -17,13 +17,15 @@ use Rattle.line.specs.declared.step.Step.{Step}
 use Rattle.exchange.specs.Flags.{noFlags}
 use Rattle.exchange.specs.Judge as exchange
 use Rattle.exchange.specs.Request.{Asking, asking}
+use Rattle.exchange.specs.Tick.{isStill}
+use Rattle.exchange.proofs.Stilling.{still-tick}
 use Rattle.exchange.specs.declared.flags.Flags.{Flags}
 use Rattle.exchange.specs.declared.judge.Judged.{Judged}
 use Rattle.exchange.specs.declared.request.Requested.{Requested}
-use Rattle.link.specs.State.{withLine, withHeard, withExchange, answerAs, refusedAs, gateOf}
+use Rattle.link.specs.State.{withLine, withHeard, withExchange, partsOf, answerAs, refusedAs, linkInRange, gateOf}
 use Rattle.link.specs.declared.run.Affair.{Affair}
 use Rattle.link.specs.declared.run.Affair.the-variants as affair
-use Rattle.link.specs.Run.{Left, left, leaves, Midway, codes, codesOut, closedAs, settled, noted, acknowledged, lost, judging, judged, told, affairOf, quietBy, heardBy, tickAs, tickOn, tickBy}
+use Rattle.link.specs.Run.{Left, left, leaves, Midway, codes, codesOut, closedAs, settled, noted, acknowledged, lost, judging, judged, told, affairOf, quietBy, heardBy, tickTold, tickAs, tickOn, tickBy}
 use Rattle.link.specs.Call.{gated, byteCall, asks, asksBy}
 use Rattle.link.specs.declared.answer.Refusal.{Refusal}
 use Rattle.link.specs.declared.answer.Outcome.the-variants as outcome
@@ -50,6 +52,15 @@ unfolding part
 whole-part n l = refl
 
 -- ---- through the gate
+
+-- the gate asks nothing of the received bytes
+pub by-parts : (u : Link) (room out : ℕ) → gateOf (partsOf (u .settings) (u .line) (u .exchange) (u .block)) room out ≡ gateOf u room out
+unfolding gateOf linkInRange
+by-parts u room out = refl
+
+pub in-range-parts : (u : Link) → linkInRange (partsOf (u .settings) (u .line) (u .exchange) (u .block)) ≡ linkInRange u
+unfolding linkInRange
+in-range-parts u = refl
 
 pub opens : (u : Link) (room o : List ℕ) (l : Left) {g : Gate} {x : Left} → g ≡ gateOf u (length room) (length o) → g ≡ gate.Open → x ≡ l → x ≡ gated u room o l
 opens u room o l e q p = rw (sym e ∙ q) p
@@ -112,6 +123,33 @@ told-by (event.Bad fault) u room = refl
 pub tells : (put : Out) (e : Event) (u : Link) (room o : List ℕ) {a : Affair} (b : Affair) {x : Left} → a ≡ affairOf e → a ≡ b
     → x ≡ leaves (settled put (toldOf b e u room) outcome.Done) o → x ≡ leaves (settled put (told e u room) outcome.Done) o
 tells put e u room o b p q r = r ∙ ap (λ (m : Midway). leaves (settled put m outcome.Done) o) (sym (told-by e u room ∙ ap (λ (z : Affair). toldOf z e u room) (sym p ∙ q)))
+
+-- a tick that makes the line tell nothing, while no timer runs at a place
+quiet-tick : (o : Out) (e : Event) (u : Link) (room : List ℕ) → quietBy o e ≡ true → tickTold e u room ≡ noted event.Quiet u room
+quiet-tick o event.Quiet u room q = refl
+quiet-tick o event.Sent u room q = refl
+quiet-tick out.Nothing event.Failed u room q = absurd (false≢true q)
+quiet-tick (out.Code c) event.Failed u room q = absurd (false≢true q)
+quiet-tick out.Block event.Failed u room q = absurd (false≢true q)
+quiet-tick o event.GaveWay u room q = refl
+quiet-tick o (event.Up n) u room q = refl
+quiet-tick out.Nothing event.NoLength u room q = absurd (false≢true q)
+quiet-tick (out.Code c) event.NoLength u room q = absurd (false≢true q)
+quiet-tick out.Block event.NoLength u room q = absurd (false≢true q)
+quiet-tick out.Nothing event.Gap u room q = absurd (false≢true q)
+quiet-tick (out.Code c) event.Gap u room q = absurd (false≢true q)
+quiet-tick out.Block event.Gap u room q = absurd (false≢true q)
+quiet-tick out.Nothing (event.Bad fault) u room q = absurd (false≢true q)
+quiet-tick (out.Code c) (event.Bad fault) u room q = absurd (false≢true q)
+quiet-tick out.Block (event.Bad fault) u room q = absurd (false≢true q)
+
+pub short-tick : (u : Link) (t : Step) (room o : List ℕ) {s v : Step} {n : ℕ} {f : Flags} {now : List ℕ} → t ≡ v
+    → length (u .exchange .own) ≡ 4 → length (u .exchange .incoming) ≡ 4 → isStill (u .exchange) ≡ true
+    → quietBy (t .out) (t .event) ≡ true → s ≡ settleOf (t .line) → n ≡ length (codes (t .out) (s .out)) → now ≡ onFront (codes (t .out) (s .out)) o → f ≡ noFlags
+    → left (answerAs (withLine u (s .line)) n outcome.Done note.Nothing f) room now ≡ leaves (tickBy u v room) o
+short-tick u t room o same four fours still q line count front none =
+    rw (sym same, quiet-tick (t .out) (t .event) (withLine u (t .line)) room q, still-tick (u .settings .terms) (u .exchange) four fours still)
+    (rw (count, front, none, line) refl)
 
 -- a block that went up was judged
 pub judges : (u : Link) (put : Out) (n : ℕ) (room o : List ℕ) {j : Judged} {after now : List ℕ} {a : Answer} → exchange.judging j after ≡ judging u n room

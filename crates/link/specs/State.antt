@@ -1,7 +1,7 @@
 -- The unit's state: a fresh one, its ranges (docs/STATE.md), what changes a part of it, and what a refused call answers.
 use Prim.Native.Nat.{ℕ}
 use mathlib.Core.Bool.{Bool, true, false, cond, _&&_}
-use mathlib.Core.List.{List}
+use mathlib.Core.List.{List, []}
 use lib.Dec.{eqb, ltb, leb}
 use lib.ListN.{replicate, length}
 use Rattle.settings.specs.Panel.{between}
@@ -47,6 +47,10 @@ withExchange u x = record { settings = u .settings; line = u .line; received = u
 
 abbrev pub withBlock : Link → ℕ → Link
 withBlock u k = record { settings = u .settings; line = u .line; received = u .received; exchange = u .exchange; block = k }
+
+-- a unit of these parts: of the received bytes no range is asked
+abbrev pub partsOf : Settings → Line → Exchange → ℕ → Link
+partsOf s l x k = record { settings = s; line = l; received = []; exchange = x; block = k }
 
 -- ---- refusals
 

@@ -9,6 +9,7 @@ use crate::answer::Answer;
 use crate::answer::Note;
 use crate::answer::Outcome;
 use crate::gate::Gate;
+use crate::gate::admits;
 use crate::link::Link;
 use crate::run::is_quiet;
 use crate::run::put_codes;
@@ -20,10 +21,19 @@ impl Link {
     pub fn byte(mut self, b: u8, room: &mut [u8], out: &mut [u8]) -> Answer
         ensures { λ r. ⌜ left r (now (room .exit)) (now (out .exit)) ≡ byteCall self b (now (room .entry)) (now (out .entry)) ⌝ }
     {
-        match self.gate(room.len(), out.len()) {
+        let settings = self.settings;
+        let before = self.line;
+        let exchange = self.exchange;
+        match admits(
+            settings,
+            before,
+            exchange,
+            self.block,
+            room.len(),
+            out.len(),
+        ) {
             Gate::Open => {
                 let limits = self.settings.limits;
-                let before = self.line;
                 let step = before.byte(limits, b, &mut self.received);
                 let line = step.line;
                 let put = step.out;
@@ -54,14 +64,40 @@ impl Link {
     pub fn tick(mut self, room: &mut [u8], out: &mut [u8]) -> Answer
         ensures { λ r. ⌜ left r (now (room .exit)) (now (out .exit)) ≡ tickCall self (now (room .entry)) (now (out .entry)) ⌝ }
     {
-        match self.gate(room.len(), out.len()) {
+        let settings = self.settings;
+        let before = self.line;
+        let exchange = self.exchange;
+        match admits(
+            settings,
+            before,
+            exchange,
+            self.block,
+            room.len(),
+            out.len(),
+        ) {
             Gate::Open => {
                 let limits = self.settings.limits;
-                let before = self.line;
                 let step = before.tick(limits);
                 let line = step.line;
                 let put = step.out;
                 let event = step.event;
+                if is_quiet(put, event) {
+                    if exchange.is_still() {
+                        let end = line.settle();
+                        let after = end.line;
+                        let code = end.out;
+                        self.line = after;
+                        let count = put_codes(out, put, code);
+                        let flags = Flags::none();
+                        return Answer {
+                            link: self,
+                            outcome: Outcome::Done,
+                            count,
+                            note: Note::Nothing,
+                            flags,
+                        };
+                    }
+                }
                 self.line = line;
                 self.ticked(put, event, out)
             }
@@ -73,9 +109,18 @@ impl Link {
     pub fn drained(mut self, room: &mut [u8], out: &mut [u8]) -> Answer
         ensures { λ r. ⌜ left r (now (room .exit)) (now (out .exit)) ≡ drainedCall self (now (room .entry)) (now (out .entry)) ⌝ }
     {
-        match self.gate(room.len(), out.len()) {
+        let settings = self.settings;
+        let before = self.line;
+        let exchange = self.exchange;
+        match admits(
+            settings,
+            before,
+            exchange,
+            self.block,
+            room.len(),
+            out.len(),
+        ) {
             Gate::Open => {
-                let before = self.line;
                 let line = before.drained();
                 self.line = line;
                 self.settles(

@@ -1,47 +1,66 @@
 // Refusals 1 to 3, which every call that is lent room and output gives before any other.
+//
+// The parts of the unit are handed over one by one: what they are read for does not need the received bytes.
 ghost use mathlib.Core.Path.{_≡_};
-ghost use Rattle.link.specs.State.{gateOf, linkInRange};
+ghost use Rattle.link.specs.State.{gateOf, linkInRange, partsOf};
 use crate::answer::Refusal;
 use crate::link::Link;
+use crate::setup::Settings;
+use exchange::Exchange;
+use line::Line;
 
 pub(crate) enum Gate {
     Open,
     Shut(Refusal),
 }
 
+// Whether every number is in its range (docs/STATE.md).
+fn fits(settings: Settings, line: Line, exchange: Exchange, block: u16) -> bool
+    ensures { λ r. ⌜ r ≡ linkInRange (partsOf settings line exchange block) ⌝ }
+{
+    if 1 <= block {
+        if block <= 17 {
+            if settings.in_range() {
+                if line.in_range() {
+                    return exchange.in_range();
+                }
+            }
+        }
+    }
+    false
+}
+
+// `room` and `out` are how many bytes of each are lent.
+pub(crate) fn admits(
+    settings: Settings,
+    line: Line,
+    exchange: Exchange,
+    block: u16,
+    room: usize,
+    out: usize,
+) -> Gate
+    ensures { λ r. ⌜ r ≡ gateOf (partsOf settings line exchange block) room out ⌝ }
+{
+    if out < 257 {
+        return Gate::Shut(Refusal::OutputShort);
+    }
+    if room != 36864 {
+        return Gate::Shut(Refusal::RoomSize);
+    }
+    if fits(settings, line, exchange, block) {
+        return Gate::Open;
+    }
+    Gate::Shut(Refusal::State)
+}
+
 impl Link {
-    // Whether every number of the state is in its range (docs/STATE.md).
+    // The same of a whole unit, for a call that is lent no memory.
     pub(crate) fn in_range(self) -> bool
         ensures { λ r. ⌜ r ≡ linkInRange self ⌝ }
     {
         let settings = self.settings;
         let line = self.line;
         let exchange = self.exchange;
-        if 1 <= self.block {
-            if self.block <= 17 {
-                if settings.in_range() {
-                    if line.in_range() {
-                        return exchange.in_range();
-                    }
-                }
-            }
-        }
-        false
-    }
-
-    // `room` and `out` are how many bytes of each are lent.
-    pub(crate) fn gate(self, room: usize, out: usize) -> Gate
-        ensures { λ r. ⌜ r ≡ gateOf self room out ⌝ }
-    {
-        if out < 257 {
-            return Gate::Shut(Refusal::OutputShort);
-        }
-        if room != 36864 {
-            return Gate::Shut(Refusal::RoomSize);
-        }
-        if self.in_range() {
-            return Gate::Open;
-        }
-        Gate::Shut(Refusal::State)
+        fits(settings, line, exchange, self.block)
     }
 }

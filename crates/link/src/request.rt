@@ -9,6 +9,7 @@ use crate::answer::Note;
 use crate::answer::Outcome;
 use crate::answer::Refusal;
 use crate::gate::Gate;
+use crate::gate::admits;
 use crate::link::Link;
 use exchange::Asked;
 use exchange::Exchange;
@@ -46,13 +47,22 @@ impl Link {
     pub fn open(self, primary: Primary, data: &[u8], room: &mut [u8], out: &mut [u8]) -> Answer
         ensures { λ r. ⌜ left r (now (room .exit)) (now (out .exit)) ≡ openCall self primary (now («data» .entry)) (now (room .entry)) (now (out .entry)) ⌝ }
     {
-        match self.gate(room.len(), out.len()) {
+        let settings = self.settings;
+        let before = self.line;
+        let exchange = self.exchange;
+        match admits(
+            settings,
+            before,
+            exchange,
+            self.block,
+            room.len(),
+            out.len(),
+        ) {
             Gate::Open => {
-                let before = self.exchange;
-                let requested = before.open(self.settings.terms, primary, data, room);
+                let requested = exchange.open(self.settings.terms, primary, data, room);
                 let asked = requested.asked;
-                let exchange = requested.exchange;
-                self.asked(asked, exchange, room, out)
+                let after = requested.exchange;
+                self.asked(asked, after, room, out)
             }
             Gate::Shut(refusal) => self.refused(refusal),
         }
@@ -69,13 +79,22 @@ impl Link {
     ) -> Answer
         ensures { λ r. ⌜ left r (now (room .exit)) (now (out .exit)) ≡ replyCall self place function (now («data» .entry)) (now (room .entry)) (now (out .entry)) ⌝ }
     {
-        match self.gate(room.len(), out.len()) {
+        let settings = self.settings;
+        let before = self.line;
+        let exchange = self.exchange;
+        match admits(
+            settings,
+            before,
+            exchange,
+            self.block,
+            room.len(),
+            out.len(),
+        ) {
             Gate::Open => {
-                let before = self.exchange;
-                let requested = before.reply(place, function, data, room);
+                let requested = exchange.reply(place, function, data, room);
                 let asked = requested.asked;
-                let exchange = requested.exchange;
-                self.asked(asked, exchange, room, out)
+                let after = requested.exchange;
+                self.asked(asked, after, room, out)
             }
             Gate::Shut(refusal) => self.refused(refusal),
         }

@@ -1,3 +1,4 @@
+-- `run::both_flags` meets its contract. Assumes nothing.
 use borrow.Author.Needs.{needs}
 use Rattle.link.proofs.run.both_flags.Statement.{statement}
 use Rattle.link.proofs.run.both_flags.Tie as tie

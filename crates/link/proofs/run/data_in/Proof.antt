@@ -1,3 +1,4 @@
+-- `run::data_in` meets its contract. Assumes nothing.
 use mathlib.Core.Path.{sym}
 use Rattle.link.proofs.Turns.{short-part, whole-part}
 use borrow.Author.Needs.{needs}

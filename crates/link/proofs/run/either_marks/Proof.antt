@@ -1,3 +1,4 @@
+-- `run::either_marks` meets its contract. Assumes nothing.
 use borrow.Author.Needs.{needs}
 use Rattle.link.proofs.run.either_marks.Statement.{statement}
 use Rattle.link.proofs.run.either_marks.Tie as tie

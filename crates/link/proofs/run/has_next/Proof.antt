@@ -1,3 +1,4 @@
+-- `run::has_next` meets its contract. Assumes nothing.
 use borrow.Author.Needs.{needs}
 use Rattle.link.proofs.run.has_next.Statement.{statement}
 use Rattle.link.proofs.run.has_next.Tie as tie

@@ -1,3 +1,4 @@
+-- `run::put_block` meets its contract. Assumes nothing.
 use Rattle.link.proofs.Codes.{wrote, not-refused}
 use borrow.Author.Needs.{needs}
 use Rattle.link.proofs.run.put_block.Statement.{statement}

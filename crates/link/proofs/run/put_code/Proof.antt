@@ -1,3 +1,4 @@
+-- `run::put_code` meets its contract. Assumes nothing.
 use borrow.Author.Needs.{needs}
 use Rattle.link.proofs.run.put_code.Statement.{statement}
 use Rattle.link.proofs.run.put_code.Tie as tie

@@ -1,3 +1,4 @@
+-- `run::put_codes` meets its contract. Assumes nothing.
 use native.Mathlib.Omega.{arith}
 use Rattle.link.proofs.Codes.{code-short, codes-length, codes-put, put-length}
 use mathlib.Core.Path.{_∙_}

@@ -1,3 +1,4 @@
+-- `run::put_message` meets its contract. Assumes nothing.
 use mathlib.Core.Path.{refl}
 use Rattle.link.proofs.Codes.{no-code, part-fits, cut-from}
 use borrow.Author.Needs.{needs}

@@ -1,3 +1,4 @@
+-- `answer::Note::of` meets its contract. Assumes nothing.
 use borrow.Author.Needs.{needs}
 use Rattle.link.proofs.answer.Note.of.Statement.{statement}
 use Rattle.link.proofs.answer.Note.of.Tie as tie

@@ -1,3 +1,4 @@
+-- `link::Link::acknowledged` meets its contract. Assumes nothing.
 use mathlib.Core.Path.{sym, _∙_}
 use Rattle.link.specs.Run.{acknowledged}
 use Rattle.link.proofs.Turns.{closes}

@@ -1,3 +1,4 @@
+-- `link::Link::asked` meets its contract. Assumes nothing.
 use mathlib.Core.Path.{refl}
 use Rattle.link.proofs.Turns.{closes}
 use borrow.Author.Needs.{needs}

@@ -1,3 +1,4 @@
+-- `link::Link::block_out` meets its contract. Assumes nothing.
 use borrow.Author.Needs.{needs}
 use Rattle.link.proofs.link.Link.block_out.Statement.{statement}
 use Rattle.link.proofs.link.Link.block_out.Tie as tie

@@ -1,3 +1,4 @@
+-- `link::Link::freed` meets its contract. Assumes nothing.
 use borrow.Author.Needs.{needs}
 use Rattle.link.proofs.link.Link.freed.Statement.{statement}
 use Rattle.link.proofs.link.Link.freed.Tie as tie

@@ -1,3 +1,4 @@
+-- `link::Link::fresh` meets its contract. Assumes nothing.
 use borrow.Author.Needs.{needs}
 use Rattle.link.proofs.link.Link.fresh.Statement.{statement}
 use Rattle.link.proofs.link.Link.fresh.Tie as tie

@@ -1,3 +1,4 @@
+-- `link::Link::heard` meets its contract. Assumes nothing.
 use Rattle.link.proofs.Turns.{closes}
 use borrow.Author.Needs.{needs}
 use Rattle.link.proofs.link.Link.heard.Statement.{statement}

@@ -1,19 +1,13 @@
-use mathlib.Core.Path.{sym, _∙_}
-use borrow.Author.Tests.{le-leb, lt-leb}
-use Rattle.settings.specs.Panel.{between}
-use Rattle.link.specs.State.{linkInRange}
+-- `link::Link::in_range` meets its contract. Assumes nothing.
+use mathlib.Core.Path.{_∙_}
+use Rattle.link.proofs.Turns.{in-range-parts}
 use borrow.Author.Needs.{needs}
 use Rattle.link.proofs.link.Link.in_range.Statement.{statement}
 use Rattle.link.proofs.link.Link.in_range.Tie as tie
 
 pub in-range-spec : {M : Type 1} → statement M
-unfolding linkInRange between
 in-range-spec =
     tie.close
     (tie.spec
-    (λ c κs. search needs) (λ c κs. search needs) (λ c κs. search needs)
-    (λ c. simp (le-leb _ _ (c .before .before .before .before .before .before .before .if1 .taken), le-leb _ _ (c .before .before .before .before .before .if2 .taken), sym (c .before .before .before .before .in-range .ensures) ∙ c .before .before .before .if3 .taken, sym (c .before .before .in-range2 .ensures) ∙ c .before .if4 .taken) (c .in-range3 .ensures))
-    (λ c. simp (le-leb _ _ (c .before .before .before .before .before .before .if1 .taken), le-leb _ _ (c .before .before .before .before .if2 .taken), sym (c .before .before .before .in-range .ensures) ∙ c .before .before .if3 .taken, sym (c .before .in-range2 .ensures) ∙ c .if4 .left))
-    (λ c. simp (le-leb _ _ (c .before .before .before .before .if1 .taken), le-leb _ _ (c .before .before .if2 .taken), sym (c .before .in-range .ensures) ∙ c .if3 .left))
-    (λ c. simp (le-leb _ _ (c .before .before .if1 .taken), lt-leb _ _ (c .if2 .left)))
-    (λ c. simp (lt-leb _ _ (c .if1 .left))))
+    (λ c κs. search needs)
+    (λ c. c .fits2 .ensures ∙ in-range-parts _))

@@ -1,3 +1,4 @@
+-- `link::Link::incoming_data` meets its contract. Assumes nothing.
 use mathlib.Core.Path.{sym, _∙_}
 use borrow.Author.Needs.{needs}
 use Rattle.link.proofs.link.Link.incoming_data.Statement.{statement}

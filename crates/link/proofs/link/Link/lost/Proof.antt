@@ -1,3 +1,4 @@
+-- `link::Link::lost` meets its contract. Assumes nothing.
 use borrow.Author.Needs.{needs}
 use Rattle.link.proofs.link.Link.lost.Statement.{statement}
 use Rattle.link.proofs.link.Link.lost.Tie as tie

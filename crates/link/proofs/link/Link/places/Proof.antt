@@ -1,3 +1,4 @@
+-- `link::Link::places` meets its contract. Assumes nothing.
 use borrow.Author.Needs.{needs}
 use Rattle.link.proofs.link.Link.places.Statement.{statement}
 use Rattle.link.proofs.link.Link.places.Tie as tie

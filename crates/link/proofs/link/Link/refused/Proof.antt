@@ -1,3 +1,4 @@
+-- `link::Link::refused` meets its contract. Assumes nothing.
 use borrow.Author.Needs.{needs}
 use Rattle.link.proofs.link.Link.refused.Statement.{statement}
 use Rattle.link.proofs.link.Link.refused.Tie as tie

@@ -1,3 +1,4 @@
+-- `link::Link::release_own` meets its contract. Assumes nothing.
 use mathlib.Core.Path.{sym, _∙_}
 use Rattle.link.specs.Call.{releaseOwnCall}
 use borrow.Author.Needs.{needs}

@@ -1,3 +1,4 @@
+-- `link::Link::settles` meets its contract. Assumes nothing.
 use borrow.Author.Needs.{needs}
 use Rattle.link.proofs.link.Link.settles.Statement.{statement}
 use Rattle.link.proofs.link.Link.settles.Tie as tie

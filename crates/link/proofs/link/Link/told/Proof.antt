@@ -1,3 +1,4 @@
+-- `link::Link::told` meets its contract. Assumes nothing.
 use Rattle.link.proofs.Turns.{closes, tells}
 use borrow.Author.Needs.{needs}
 use Rattle.link.proofs.link.Link.told.Statement.{statement}

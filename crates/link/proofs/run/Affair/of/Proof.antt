@@ -1,3 +1,4 @@
+-- `run::Affair::of` meets its contract. Assumes nothing.
 use borrow.Author.Needs.{needs}
 use Rattle.link.proofs.run.Affair.of.Statement.{statement}
 use Rattle.link.proofs.run.Affair.of.Tie as tie

@@ -1,3 +1,4 @@
+-- `setup::Settings::in_range` meets its contract. Assumes nothing.
 use mathlib.Core.Path.{sym, _∙_}
 use Rattle.link.specs.Setup.{settingsInRange}
 use borrow.Author.Needs.{needs}

@@ -1,3 +1,4 @@
+-- `setup::Settings::none` meets its contract. Assumes nothing.
 use borrow.Author.Needs.{needs}
 use Rattle.link.proofs.setup.Settings.none.Statement.{statement}
 use Rattle.link.proofs.setup.Settings.none.Tie as tie

@@ -1,3 +1,4 @@
+-- `setup::Setup::agreed` meets its contract. Assumes nothing.
 use mathlib.Core.Path.{sym, _∙_}
 use borrow.Author.Needs.{needs}
 use Rattle.link.proofs.setup.Setup.agreed.Statement.{statement}

@@ -1,3 +1,4 @@
+-- `setup::Setup::settled` meets its contract. Assumes nothing.
 use mathlib.Core.Path.{sym, _∙_}
 use borrow.Author.Tests.{lt-ltb, le-ltb}
 use Rattle.link.specs.Setup.{settledOf}
