@@ -25,6 +25,25 @@ pub mod Refusing
 pub mod Starting
 pub mod Filling
 pub mod Writing
+-- The places: what a call of the transactions does to one, what the line tells in a call and what the call answers, a block that goes
+-- up; how a call moves what is seen of a place; verdicts, messages, our replies; notes, strays, flags.
+pub mod Changing
+pub mod Underway
+pub mod Stepping
+pub mod Listening
+pub mod Saying
+pub mod Rising
+pub mod Moving
+pub mod Backing
+pub mod Sparing
+pub mod Verdicts
+pub mod Messages
+pub mod Arriving
+pub mod ReplyEnds
+pub mod Ending
+pub mod Noting
+pub mod Straying
+pub mod Raising
 -- Two units on a line that loses nothing.
 pub mod Calling
 pub mod Hearing

@@ -36,7 +36,7 @@ reached-exchange c t w ks = record {
   so = exchange-more c (exchange.atStart (w .last) (w .room)) (w .calls) ks ∙ ap (λ (v : exchange.Track). exchange.track c v ks) (w .so);
 }
 
-fresh-exchange : (c : Terms) (last : ℕ) (room : List ℕ) → length room ≡ 36864 → ExchangeReached c (exchange.atStart last room)
+pub fresh-exchange : (c : Terms) (last : ℕ) (room : List ℕ) → length room ≡ 36864 → ExchangeReached c (exchange.atStart last room)
 unfolding exchange.track
 fresh-exchange c last room whole = record { last = last; room = room; whole = whole; calls = []; so = refl }
 
@@ -48,7 +48,7 @@ module _ (t : Track) (m : Made) where
 
   module _ (room : List ℕ) where
     -- their track after a call, on any room
-    after : exchange.Track
+    unfoldable pub after : exchange.Track
     after = exchange.track (termsIn t) (exchangeTrack t room) (onExchangeIn t m)
 
     after-lent : (after .exchange ≡ next t m .link .exchange) × (after .seen ≡ next t m .joined)
@@ -57,7 +57,7 @@ module _ (t : Track) (m : Made) where
         let same = track-alike (termsIn t) (exchangeTrack t room) (exchangeTrack t (lentRoom (m .room) (t .room))) (onExchangeIn t m) refl refl in
         (same .0 ∙ exchange-goes (t .link) (lentRoom (m .room) (t .room)) (m .out) (m .call) (t .joined) .exchange, same .1)
 
-    reached-after : ExchangeReached (termsIn t) (exchangeTrack t room) → ExchangeReached (termsIn (next t m)) (exchangeTrack (next t m) (after .room))
+    pub reached-after : ExchangeReached (termsIn t) (exchangeTrack t room) → ExchangeReached (termsIn (next t m)) (exchangeTrack (next t m) (after .room))
     unfolding after
     reached-after w =
         subst (λ c. ExchangeReached c (exchangeTrack (next t m) (after .room))) (sym same-terms)

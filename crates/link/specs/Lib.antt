@@ -8,5 +8,7 @@ pub mod History
 pub mod Inside
 pub mod Door
 pub mod Refusals
+pub mod Verdicts
+pub mod Moves
 pub mod SameMessage
 pub mod Table

@@ -1,0 +1,395 @@
+-- How one call of the unit moves what the onlookers of the places have seen, which note it answers and which flags it raises: so what
+-- is said by these readings (`specs/Verdicts.antt`) is said of calls, answers and what the line tells. Each proof is in `proofs/`.
+use Prim.Native.Nat.{ℕ, _+_, _≤_, _<_}
+use mathlib.Core.Path.{_≡_}
+use mathlib.Core.Bool.{Bool, true, false}
+use mathlib.Core.List.{List, [], _∷_, _++_}
+use mathlib.Core.Logic.{_↔_, _⊎_, _≢_}
+use lib.Dec.{eqb}
+use lib.ListN.{length}
+use Rattle.wire.specs.Bytes.{part}
+use Rattle.header.specs.Header.{InRange, headerOf, firstTen}
+use Rattle.header.specs.declared.header.Header.{Header}
+use Rattle.settings.specs.declared.terms.Terms.{Terms}
+use Rattle.line.specs.Codes.{ACK}
+use Rattle.line.specs.Line.{tickOf}
+use Rattle.line.specs.History as line
+use Rattle.line.specs.declared.phase.Fault.the-variants as fault
+use Rattle.line.specs.declared.step.Event.{Event}
+use Rattle.line.specs.declared.step.Event.the-variants as event
+use Rattle.place.specs.OwnHistory as own
+use Rattle.place.specs.IncomingHistory as incoming
+use Rattle.exchange.specs.Exchange.{ownPlace, incomingPlace}
+use Rattle.exchange.specs.Flags.{noFlags}
+use Rattle.exchange.specs.Request.{primaryHeader}
+use Rattle.exchange.specs.Refusals.{numberGiven, AsAsked}
+use Rattle.exchange.specs.Rules.{LowestAt, OfReply, OfMessage, ReplyHere, MessageHere, AlikeAt, FreeAt, AlikeHere, Ruled}
+use Rattle.exchange.specs.Theorems.{Flagged}
+use Rattle.exchange.specs.Watching.{sentFrom, acceptedAs, freedSeen}
+use Rattle.exchange.specs.declared.exchange.Exchange.{Exchange}
+use Rattle.exchange.specs.declared.reading.ReplyStage.{ReplyStage}
+use Rattle.exchange.specs.declared.reading.ReplyStage.the-variants as stage
+use Rattle.exchange.specs.declared.request.Primary.{Primary}
+use Rattle.link.specs.Answer.{noteNumber}
+use Rattle.link.specs.Run.{hasNext}
+use Rattle.link.specs.History.{Call, byte, tick, drained, primary, reply, free-own, free-incoming, Made, hearing, lentRoom, Track, termsIn, answered, next}
+use Rattle.link.specs.Inside.{Always}
+use Rattle.link.specs.Verdicts.{AtEach, accepts, Accepted, FreesOwn, FreesIncoming, replyStands, replyFrom}
+use Rattle.link.specs.declared.answer.Outcome.the-variants as outcome
+use Rattle.link.specs.declared.link.Link.{Link}
+
+-- ---- what comes of a call
+
+-- it was refused
+abbrev pub Refused : Track → Made → Type 0
+Refused t m = accepts (answered t m .answer .outcome) ≡ false
+
+-- 0.1 s passed: "a refused call is no tick"
+pub record Ticks (t : Track) (m : Made) : Type 0 where
+  pub accepted : Accepted t m
+  pub call : m .call ≡ tick
+
+-- the number of its note
+abbrev pub noted : Track → Made → ℕ
+noted t m = noteNumber (answered t m .answer .note)
+
+-- what the line tells in it
+abbrev pub tells : Link → Call → Event
+tells u (byte b fits) = hearing u b .step .event
+tells u tick = tickOf (u .settings .limits) (u .line) .event
+tells u drained = event.Quiet
+tells u (primary q d) = event.Quiet
+tells u (reply p f d) = event.Quiet
+tells u (free-own p) = event.Quiet
+tells u (free-incoming p) = event.Quiet
+
+pub record Tells (t : Track) (m : Made) (e : Event) : Type 0 where
+  pub accepted : Accepted t m
+  pub event : tells (t .link) (m .call) ≡ e
+
+-- the received bytes once it has come
+abbrev pub received : Link → Call → List ℕ
+received u (byte b fits) = hearing u b .received
+received u tick = u .received
+received u drained = u .received
+received u (primary q d) = u .received
+received u (reply p f d) = u .received
+received u (free-own p) = u .received
+received u (free-incoming p) = u .received
+
+-- a block went up in it, with these ten header bytes and this data
+pub record GoesUp (t : Track) (m : Made) (h d : List ℕ) : Type 0 where
+  pub size : ℕ
+  pub told : Tells t m (event.Up size)
+  pub header : firstTen (received (t .link) (m .call)) ≡ h
+  pub rest : part 10 size (received (t .link) (m .call)) ≡ d
+
+-- the byte x came in it
+abbrev pub comes : ℕ → Call → Bool
+comes x (byte b fits) = eqb b x
+comes x tick = false
+comes x drained = false
+comes x (primary q d) = false
+comes x (reply p f d) = false
+comes x (free-own p) = false
+comes x (free-incoming p) = false
+
+-- "ACK means sent": the line tells so exactly if ACK came while it was waited for
+abbrev pub SentExactly : Type 0
+SentExactly = Always (λ t. (m : Made) → Tells t m event.Sent ↔ (Accepted t m × (comes ACK (m .call) ≡ true) × (t .seen .ours ≡ line.left)))
+
+-- ---- what a call is to own place p
+
+-- a primary was accepted, and this is its place
+pub record Opens (t : Track) (m : Made) (p : ℕ) (q : Primary) : Type 0 where
+  pub rest : List ℕ
+  pub call : m .call ≡ primary q rest
+  pub place : answered t m .answer .outcome ≡ outcome.Taken p
+
+-- the last block of its primary was acknowledged
+pub record Acknowledges (t : Track) (m : Made) (p : ℕ) : Type 0 where
+  pub told : Tells t m event.Sent
+  pub last : hasNext (t .link) ≡ false
+  pub of-it : sentFrom (t .link .exchange .sending) p ≡ true
+
+-- a block of its primary failed
+pub record Loses (t : Track) (m : Made) (p : ℕ) : Type 0 where
+  pub told : Tells t m event.Failed
+  pub of-it : sentFrom (t .link .exchange .sending) p ≡ true
+
+-- a block of its reply went up, and was noted n
+pub record RepliedTo (t : Track) (m : Made) (p n : ℕ) (h d : List ℕ) : Type 0 where
+  pub up : GoesUp t m h d
+  pub note : noted t m ≡ n
+  pub of-it : LowestAt (λ q. OfReply (ownPlace (t .link .exchange) q) (headerOf h)) p
+
+-- ---- how the onlooker of own place p moves
+
+-- one tick more since the ACK, and since the last block kept
+abbrev pub passed : own.Seen → own.Seen
+passed s =
+    record { request = s .request; header = s .header; kept = s .kept; bytes = s .bytes; spoilt = s .spoilt; since = s .since + 1; quiet = s .quiet + 1 }
+
+-- the request is underway, with this header
+abbrev pub underwayWith : own.Seen → Header → own.Seen
+underwayWith s h =
+    record { request = own.underway; header = h; kept = s .kept; bytes = s .bytes; spoilt = s .spoilt; since = s .since; quiet = s .quiet }
+
+-- its last block was acknowledged: all counts start
+abbrev pub countsStart : own.Seen → own.Seen
+countsStart s = record { request = own.acknowledged; header = s .header; kept = []; bytes = 0; spoilt = false; since = 0; quiet = 0 }
+
+-- All that a call can be to this onlooker, and what it has then seen.
+pub data OwnStep (t : Track) (m : Made) (p : ℕ) : own.Seen → Type 0 where
+  same : (Ticks t m → ⊥) → OwnStep t m p (t .own p)
+  passes : Ticks t m → OwnStep t m p (passed (t .own p))
+  -- a send fails by a byte, or by a tick
+  loses : (Ticks t m → ⊥) → Loses t m p → OwnStep t m p (own.at (t .own p) own.lost)
+  loses-passing : Ticks t m → Loses t m p → OwnStep t m p (passed (own.at (t .own p) own.lost))
+  opens : (q : Primary) → Opens t m p q → OwnStep t m p (underwayWith (t .own p) (acceptedAs (termsIn t) (t .link .exchange) q))
+  acknowledges : Acknowledges t m p → OwnStep t m p (countsStart (t .own p))
+  frees : FreesOwn t m p → OwnStep t m p (own.at (t .own p) own.none)
+  -- "Kept: note 21."
+  keeps : (h d : List ℕ) → RepliedTo t m p 21 h d → OwnStep t m p (own.answered own.kept (t .own p) (headerOf h) (length d))
+  -- 26 and 27: "An open message, or awaited reply, ends broken."
+  spoils : (n : ℕ) (h d : List ℕ) → (n ≡ 26) ⊎ (n ≡ 27) → RepliedTo t m p n h d
+      → OwnStep t m p (own.answered own.spoilt (t .own p) (headerOf h) (length d))
+
+-- the request came to this in the call
+pub record Becomes (t : Track) (m : Made) (p : ℕ) (r : own.Request) : Type 0 where
+  pub before : t .own p .request ≢ r
+  pub after : next t m .own p .request ≡ r
+
+pub record OwnMoves (t : Track) (m : Made) (p : ℕ) : Type 0 where
+  -- it is one of those, and no other
+  pub one-of : OwnStep t m p (next t m .own p)
+  -- "a refused call is no tick and no byte in any rule or limit"
+  pub refused : Refused t m → next t m .own p ≡ t .own p
+  -- each tick adds one to the ticks since the ACK, and to those since the last block kept
+  pub ticked : Ticks t m → (next t m .own p .since ≡ t .own p .since + 1) × (next t m .own p .quiet ≡ t .own p .quiet + 1)
+  -- nothing else changes the ticks since the ACK, but that ACK, from which they are counted
+  pub since-kept : (Ticks t m → ⊥) → (Acknowledges t m p → ⊥) → next t m .own p .since ≡ t .own p .since
+  -- a request is underway from the call in which it is accepted, with the header as it was asked for and the number given
+  pub opened :
+      (q : Primary) → Opens t m p q
+      → (t .own p .request ≡ own.none) × (next t m .own p ≡ underwayWith (t .own p) (acceptedAs (termsIn t) (t .link .exchange) q))
+  pub opened-only : Becomes t m p own.underway → (q : Primary) × Opens t m p q
+  -- acknowledged exactly from the ACK of its last block
+  pub acknowledged : Becomes t m p own.acknowledged ↔ Acknowledges t m p
+  pub counts-start : Acknowledges t m p → next t m .own p ≡ countsStart (t .own p)
+  -- lost exactly once the send of a block of it has failed
+  pub lost : Becomes t m p own.lost ↔ Loses t m p
+  -- gone exactly with the release
+  pub released : Becomes t m p own.none ↔ FreesOwn t m p
+  pub released-so : FreesOwn t m p → next t m .own p ≡ own.at (t .own p) own.none
+  -- a block is kept exactly if it went up, was noted 21 and is of this place's reply; its data is joined
+  pub kept :
+      (h d : List ℕ) → RepliedTo t m p 21 h d
+      → (next t m .own p ≡ own.answered own.kept (t .own p) (headerOf h) (length d)) × (next t m .joined .replies p ≡ t .joined .replies p ++ d)
+  pub kept-only :
+      (b : Header) → next t m .own p .kept ≡ t .own p .kept ++ (b ∷ [])
+      → (h : List ℕ) × (d : List ℕ) × RepliedTo t m p 21 h d × (headerOf h ≡ b)
+  -- one breaks the reply exactly if it was noted 26 or 27
+  pub spoilt :
+      (n : ℕ) (h d : List ℕ) → (n ≡ 26) ⊎ (n ≡ 27) → RepliedTo t m p n h d
+      → next t m .own p ≡ own.answered own.spoilt (t .own p) (headerOf h) (length d)
+  pub spoilt-only :
+      t .own p .spoilt ≡ false → next t m .own p .spoilt ≡ true
+      → (n : ℕ) × (h : List ℕ) × (d : List ℕ) × ((n ≡ 26) ⊎ (n ≡ 27)) × RepliedTo t m p n h d
+
+abbrev pub OwnSeen : Type 0
+OwnSeen = AtEach (λ t p. (m : Made) → OwnMoves t m p)
+
+-- A request is underway exactly while its primary is the message "being sent or held".
+abbrev pub UnderwayExactly : Type 0
+UnderwayExactly = AtEach (λ t p. (t .own p .request ≡ own.underway) ↔ (sentFrom (t .link .exchange .sending) p ≡ true))
+
+-- The header of an accepted request is as it was asked for, with the number given.
+abbrev pub HeaderAsAsked : Type 0
+HeaderAsAsked =
+    (c : Terms) (x : Exchange) (q : Primary) → InRange (primaryHeader c q (numberGiven x)) → AsAsked c q (numberGiven x) (acceptedAs c x q)
+
+-- ---- how the onlooker of incoming place p moves
+
+-- a further block of its message went up, and was noted n
+pub record Continued (t : Track) (m : Made) (p n : ℕ) (h d : List ℕ) : Type 0 where
+  pub up : GoesUp t m h d
+  pub note : noted t m ≡ n
+  pub no-reply : ReplyHere (t .link .exchange) (headerOf h) → ⊥
+  pub of-it : LowestAt (λ q. OfMessage (incomingPlace (t .link .exchange) q) (headerOf h)) p
+
+-- "throws that one out and takes its place .. Otherwise it takes the lowest free incoming place"
+abbrev pub TakesPlace : Exchange → Header → ℕ → Type 0
+TakesPlace x b p = LowestAt (AlikeAt x b) p ⊎ ((AlikeHere x b → ⊥) × LowestAt (FreeAt x) p)
+
+-- the first block of a message went up, was noted 21, and took this place
+pub record Began (t : Track) (m : Made) (p : ℕ) (h d : List ℕ) : Type 0 where
+  pub up : GoesUp t m h d
+  pub note : noted t m ≡ 21
+  pub no-reply : ReplyHere (t .link .exchange) (headerOf h) → ⊥
+  pub no-message : MessageHere (t .link .exchange) (headerOf h) → ⊥
+  pub place : TakesPlace (t .link .exchange) (headerOf h) p
+
+-- one tick more since the last block kept
+abbrev pub quieter : incoming.Seen → incoming.Seen
+quieter s = record { begun = s .begun; kept = s .kept; bytes = s .bytes; spoilt = s .spoilt; quiet = s .quiet + 1 }
+
+-- All that a call can be to this onlooker, and what it has then seen.
+pub data IncomingStep (t : Track) (m : Made) (p : ℕ) : incoming.Seen → Type 0 where
+  same : (Ticks t m → ⊥) → IncomingStep t m p (t .incoming p)
+  passes : Ticks t m → IncomingStep t m p (quieter (t .incoming p))
+  begins : (h d : List ℕ) → Began t m p h d → IncomingStep t m p (incoming.seesFirst own.kept (t .incoming p) (headerOf h) (length d))
+  keeps : (h d : List ℕ) → Continued t m p 21 h d → IncomingStep t m p (incoming.seesNext own.kept (t .incoming p) (headerOf h) (length d))
+  spoils : (n : ℕ) (h d : List ℕ) → (n ≡ 26) ⊎ (n ≡ 27) → Continued t m p n h d
+      → IncomingStep t m p (incoming.seesNext own.spoilt (t .incoming p) (headerOf h) (length d))
+  frees : FreesIncoming t m p → IncomingStep t m p (freedSeen (t .incoming p))
+
+-- It is one of those and no other, and each is what it says; the data of a block that is kept is joined.
+pub record IncomingMoves (t : Track) (m : Made) (p : ℕ) : Type 0 where
+  pub one-of : IncomingStep t m p (next t m .incoming p)
+  pub refused : Refused t m → next t m .incoming p ≡ t .incoming p
+  pub ticked : Ticks t m → next t m .incoming p ≡ quieter (t .incoming p)
+  pub begun :
+      (h d : List ℕ) → Began t m p h d
+      → (next t m .incoming p ≡ incoming.seesFirst own.kept (t .incoming p) (headerOf h) (length d)) × (next t m .joined .messages p ≡ d)
+  pub kept :
+      (h d : List ℕ) → Continued t m p 21 h d
+      → (next t m .incoming p ≡ incoming.seesNext own.kept (t .incoming p) (headerOf h) (length d))
+      × (next t m .joined .messages p ≡ t .joined .messages p ++ d)
+  pub spoilt :
+      (n : ℕ) (h d : List ℕ) → (n ≡ 26) ⊎ (n ≡ 27) → Continued t m p n h d
+      → next t m .incoming p ≡ incoming.seesNext own.spoilt (t .incoming p) (headerOf h) (length d)
+  pub released : FreesIncoming t m p → next t m .incoming p ≡ freedSeen (t .incoming p)
+
+abbrev pub IncomingSeen : Type 0
+IncomingSeen = AtEach (λ t p. (m : Made) → IncomingMoves t m p)
+
+-- ---- how our reply in incoming place p ends
+
+-- it was accepted
+pub record Answers (t : Track) (m : Made) (p : ℕ) : Type 0 where
+  pub accepted : Accepted t m
+  pub function : ℕ
+  pub rest : List ℕ
+  pub call : m .call ≡ reply p function rest
+
+-- its last block was acknowledged; a block of it failed
+pub record ReplySent (t : Track) (m : Made) (p : ℕ) : Type 0 where
+  pub told : Tells t m event.Sent
+  pub last : hasNext (t .link) ≡ false
+  pub of-it : replyFrom (t .link .exchange .sending) p ≡ true
+
+pub record ReplyLost (t : Track) (m : Made) (p : ℕ) : Type 0 where
+  pub told : Tells t m event.Failed
+  pub of-it : replyFrom (t .link .exchange .sending) p ≡ true
+
+-- it came to this in the call
+pub record Comes (t : Track) (m : Made) (p : ℕ) (r : ReplyStage) : Type 0 where
+  pub before : replyStands t p ≢ r
+  pub after : replyStands (next t m) p ≡ r
+
+pub record ReplyMoves (t : Track) (m : Made) (p : ℕ) : Type 0 where
+  pub on-its-way : Comes t m p stage.OnItsWay ↔ Answers t m p
+  pub sent : Comes t m p stage.Sent ↔ ReplySent t m p
+  pub failed : Comes t m p stage.Failed ↔ ReplyLost t m p
+
+abbrev pub ReplyEnds : Type 0
+ReplyEnds = AtEach (λ t p. (m : Made) → ReplyMoves t m p)
+
+-- ---- strays and duplicates
+
+-- what the line tells that is the transactions' affair: a block was sent, a send failed, a block went up
+abbrev pub concerns : Event → Bool
+concerns event.Quiet = false
+concerns event.Sent = true
+concerns event.Failed = true
+concerns event.GaveWay = false
+concerns (event.Up n) = true
+concerns event.NoLength = false
+concerns event.Gap = false
+concerns (event.Bad fault) = false
+
+-- "no stray byte or duplicate block from the far end puts these limits off"
+pub data Stray (t : Track) (m : Made) : Type 0 where
+  -- a byte with which no block went up and no send ended
+  dropped : (b : ℕ) (fits : b < 256) → m .call ≡ byte b fits → concerns (tells (t .link) (m .call)) ≡ false → Stray t m
+  -- a block that was noted 22, 23, 24 or 25
+  thrown-out : 22 ≤ noted t m → noted t m ≤ 25 → Stray t m
+
+-- every place, and all that was seen of it, is as it was: so no count is put back
+pub record PlacesStay (before after : Track) : Type 0 where
+  pub own : (p : ℕ) → ownPlace (after .link .exchange) p ≡ ownPlace (before .link .exchange) p
+  pub own-seen : (p : ℕ) → after .own p ≡ before .own p
+  pub incoming : (p : ℕ) → incomingPlace (after .link .exchange) p ≡ incomingPlace (before .link .exchange) p
+  pub incoming-seen : (p : ℕ) → after .incoming p ≡ before .incoming p
+
+abbrev pub StrayLeaves : Type 0
+StrayLeaves = (t : Track) (m : Made) → Stray t m → PlacesStay t (next t m)
+
+-- "note 22, saved header kept"; "note 23; no timer, place or byte of room changes": nothing of the transactions does
+pub record AllStays (t : Track) (m : Made) : Type 0 where
+  pub exchange : next t m .link .exchange ≡ t .link .exchange
+  pub room : answered t m .room ≡ lentRoom (m .room) (t .room)
+
+abbrev pub DuplicateLeaves : Type 0
+DuplicateLeaves = (t : Track) (m : Made) → (noted t m ≡ 22) ⊎ (noted t m ≡ 23) → AllStays t m
+
+-- Any byte with which no block goes up leaves each own place as it is but that of the primary being sent: so the far end's bytes touch
+-- no request that is acknowledged, but by a block of its reply.
+abbrev pub ByteElsewhere : Type 0
+ByteElsewhere =
+    AtEach (λ t p.
+    (m : Made) (b : ℕ) (fits : b < 256) → m .call ≡ byte b fits → ((n : ℕ) → tells (t .link) (m .call) ≢ event.Up n)
+    → sentFrom (t .link .exchange .sending) p ≡ false
+    → (ownPlace (next t m .link .exchange) p ≡ ownPlace (t .link .exchange) p) × (next t m .own p ≡ t .own p))
+
+-- ---- notes
+
+-- the line tells nothing that has a note
+abbrev pub unremarked : Event → Bool
+unremarked event.Quiet = true
+unremarked event.Sent = true
+unremarked event.Failed = true
+unremarked event.GaveWay = true
+unremarked (event.Up n) = false
+unremarked event.NoLength = false
+unremarked event.Gap = false
+unremarked (event.Bad fault) = false
+
+pub data Noted (t : Track) (m : Made) : ℕ → Type 0 where
+  -- "A refusal reports .. note 20"
+  refused : Refused t m → Noted t m 20
+  -- "20 nothing"
+  nothing : (e : Event) → Tells t m e → unremarked e ≡ true → Noted t m 20
+  -- "21 to 27 above": by the rule of exchange/specs/Rules.antt
+  block : (h d : List ℕ) (n : ℕ) → GoesUp t m h d → Ruled (termsIn t) (t .link .exchange) h d n → Noted t m n
+  -- "and with a NAK 28 no length in T2, 29 gap in body, 30 bad length, 31 bad sum"
+  no-length : Tells t m event.NoLength → Noted t m 28
+  gap : Tells t m event.Gap → Noted t m 29
+  bad-length : Tells t m (event.Bad fault.Length) → Noted t m 30
+  bad-sum : (came counted : ℕ) → Tells t m (event.Bad (fault.Sum came counted)) → Noted t m 31
+
+-- Each note exactly then.
+abbrev pub NotesLifted : Type 0
+NotesLifted = Always (λ t. (m : Made) (n : ℕ) → (noted t m ≡ n) ↔ Noted t m n)
+
+-- ---- flags
+
+-- "Calls: one byte in, one tick, drained"
+abbrev pub onTheLine : Call → Bool
+onTheLine (byte b fits) = true
+onTheLine tick = true
+onTheLine drained = true
+onTheLine (primary q d) = false
+onTheLine (reply p f d) = false
+onTheLine (free-own p) = false
+onTheLine (free-incoming p) = false
+
+-- "flags for places that got a verdict, completed or were dropped": from what the places are before and after the call
+pub record FlagsSay (t : Track) (m : Made) : Type 0 where
+  pub line : Accepted t m → onTheLine (m .call) ≡ true → Flagged (t .link .exchange) (next t m .link .exchange) (answered t m .answer .flags)
+  pub refused : Refused t m → answered t m .answer .flags ≡ noFlags
+  pub request : onTheLine (m .call) ≡ false → answered t m .answer .flags ≡ noFlags
+
+abbrev pub FlagsLifted : Type 0
+FlagsLifted = Always (λ t. (m : Made) → FlagsSay t m)

@@ -1,0 +1,267 @@
+-- What is proved of verdicts, and of the far end's messages, over every list of the unit's calls from a start, refused ones among them
+-- (`specs/History.antt`): the third demand. `t .own p` and `t .incoming p` are what the onlookers of place p have seen; how one call
+-- more moves them is in `specs/Moves.antt`. Each proof is in `proofs/`.
+use Prim.Native.Nat.{ℕ, _+_, _≤_, _<_}
+use mathlib.Core.Path.{_≡_}
+use mathlib.Core.Bool.{Bool, true, false}
+use mathlib.Core.List.{List, [], _∷_}
+use mathlib.Core.Logic.{_↔_, _⊎_}
+use lib.Dec.{eqb}
+use lib.ListN.{length}
+use Rattle.header.specs.declared.header.Header.{Header}
+use Rattle.place.specs.Message.{Continues, Whole, noHeader, firstOf}
+use Rattle.place.specs.Own.{ownStanding}
+use Rattle.place.specs.OwnHistory as own
+use Rattle.place.specs.OwnTheorems.{Earned, verdictLimit, silenceLimit}
+use Rattle.place.specs.IncomingTheorems.{Breaks}
+use Rattle.place.specs.declared.verdict.Verdict.{Verdict}
+use Rattle.place.specs.declared.verdict.Verdict.the-variants.{Answered}
+use Rattle.place.specs.declared.verdict.Standing.{Standing}
+use Rattle.place.specs.declared.verdict.Standing.the-variants.{Free, Given}
+use Rattle.exchange.specs.Exchange.{ownPlace, incomingPlace}
+use Rattle.exchange.specs.Rules.{OfMessage}
+use Rattle.exchange.specs.Theorems.{Reached as ExchangeReached, byVerdict}
+use Rattle.exchange.specs.declared.reading.OwnReading.{OwnReading}
+use Rattle.exchange.specs.declared.reading.OwnReading.the-variants as reading
+use Rattle.exchange.specs.declared.reading.IncomingReading.{IncomingReading}
+use Rattle.exchange.specs.declared.reading.IncomingReading.the-variants as arrival
+use Rattle.exchange.specs.declared.reading.ReplyStage.{ReplyStage}
+use Rattle.exchange.specs.declared.reading.ReplyStage.the-variants.{NotOwed, Owed, OnItsWay, Sent, Failed}
+use Rattle.exchange.specs.declared.exchange.Sending.{Sending}
+use Rattle.exchange.specs.declared.exchange.Sending.the-variants as sending
+use Rattle.link.specs.Reading.{ownOf, incomingOf, replyData, incomingData}
+use Rattle.link.specs.History.{free-own, free-incoming, Made, Track, exchangeTrack, termsIn, answered, next, track}
+use Rattle.link.specs.Inside.{Always, ReachedBack}
+use Rattle.link.specs.declared.answer.Outcome.{Outcome}
+use Rattle.link.specs.declared.answer.Outcome.the-variants as outcome
+
+-- ---- what a user reads of an own place
+
+-- free; "0 open"; or its verdict
+abbrev pub standingBy : OwnReading → Standing
+standingBy reading.NoPlace = Free
+standingBy (reading.Place h s r) = s
+
+abbrev pub standing : Track → ℕ → Standing
+standing t p = standingBy (ownOf (t .link) p)
+
+-- it is how the place inside stands
+abbrev pub StandingRead : Type 0
+StandingRead = (t : Track) (p : ℕ) → standing t p ≡ ownStanding (ownPlace (t .link .exchange) p)
+
+-- a statement on each of the four places of all that can be reached
+abbrev pub AtEach : (Track → ℕ → Type 0) → Type 0
+AtEach P = Always (λ t. (p : ℕ) → p < 4 → P t p)
+
+-- ---- each verdict exactly when
+
+-- A place shows a verdict exactly when it is earned: `Earned` (place/specs/OwnTheorems.antt) says when, from the history alone.
+abbrev pub VerdictExactly : Type 0
+VerdictExactly = AtEach (λ t p. (v : Verdict) → (standing t p ≡ Given v) ↔ Earned (termsIn t) (t .own p) v)
+
+-- "the whole reply, with the request's stream and the next function, was kept"
+pub record WholeReply (s : own.Seen) : Type 0 where
+  -- the request's last block was acknowledged, and it asked for a reply
+  pub acknowledged : s .request ≡ own.acknowledged
+  pub wanted : s .header .w ≡ true
+  -- the blocks kept since are a whole message: numbers 1 to n or a single 0, E on the last alone, one header else
+  pub whole : Whole (s .kept)
+  pub stream : firstOf (s .kept) .stream ≡ s .header .stream
+  pub function : firstOf (s .kept) .function ≡ s .header .function + 1
+
+-- "'Answered' is given exactly when the whole reply, with the request's stream and the next function, was kept."
+abbrev pub AnsweredExactly : Type 0
+AnsweredExactly = AtEach (λ t p. (standing t p ≡ Given Answered) ↔ WholeReply (t .own p))
+
+-- It is free exactly when no request is in it: none was accepted since the last release.
+abbrev pub FreeExactly : Type 0
+FreeExactly = AtEach (λ t p. (standing t p ≡ Free) ↔ (t .own p .request ≡ own.none))
+
+-- While the room comes back, the transactions inside, with it, are as their own calls leave them: so what is proved of their areas
+-- (`JoinedInAreas`, exchange/specs/Theorems.antt) holds of the lent room.
+abbrev pub ExchangeBack : Type 0
+ExchangeBack = (t : Track) → ReachedBack t → ExchangeReached (termsIn t) (exchangeTrack t (t .room))
+
+-- "After 2, 3 or 4 .. its area begins with the data of the kept blocks joined": so many bytes as these blocks had, and a user reads
+-- them, while the room comes back
+pub record ReplyReads (t : Track) (p : ℕ) : Type 0 where
+  pub bytes : replyData (t .link) (t .room) p ≡ t .joined .replies p
+  pub size : length (t .joined .replies p) ≡ t .own p .bytes
+
+abbrev pub ReplyRead : Type 0
+ReplyRead = (t : Track) → ReachedBack t → (p : ℕ) → p < 4 → (v : Verdict) → byVerdict v ≡ true → standing t p ≡ Given v → ReplyReads t p
+
+-- ---- at most one, and kept until released
+
+-- a call that was not refused
+abbrev pub accepts : Outcome → Bool
+accepts outcome.Done = true
+accepts (outcome.Taken p) = true
+accepts (outcome.Refused r) = false
+
+abbrev pub Accepted : Track → Made → Type 0
+Accepted t m = accepts (answered t m .answer .outcome) ≡ true
+
+-- a release of own place p, of incoming place p, that was accepted
+pub record FreesOwn (t : Track) (m : Made) (p : ℕ) : Type 0 where
+  pub accepted : Accepted t m
+  pub call : m .call ≡ free-own p
+
+pub record FreesIncoming (t : Track) (m : Made) (p : ℕ) : Type 0 where
+  pub accepted : Accepted t m
+  pub call : m .call ≡ free-incoming p
+
+-- none is among these calls
+pub data Unless (Frees : Track → Made → Type 0) : Track → List Made → Type 0 where
+  no-more : {t : Track} → Unless Frees t []
+  one-more : {t : Track} {m : Made} {ms : List Made} → (Frees t m → ⊥) → Unless Frees (next t m) ms → Unless Frees t (m ∷ ms)
+
+-- the whole place, and so all that is read of it, is as it was
+pub record OwnStays (before after : Track) (p : ℕ) : Type 0 where
+  pub place : ownPlace (after .link .exchange) p ≡ ownPlace (before .link .exchange) p
+  pub read-of-it : ownOf (after .link) p ≡ ownOf (before .link) p
+  pub shown : standing after p ≡ standing before p
+
+-- One call more leaves a place with a verdict as it is, or is its release.
+abbrev pub KeptUntilReleased : Type 0
+KeptUntilReleased =
+    AtEach (λ t p. (v : Verdict) → standing t p ≡ Given v → (m : Made) → OwnStays t (next t m) p ⊎ (FreesOwn t m p × (standing (next t m) p ≡ Free)))
+
+-- "each message accepted for sending gets at most one verdict and keeps it until released"
+abbrev pub OneVerdict : Type 0
+OneVerdict =
+    AtEach (λ t p. (v : Verdict) → standing t p ≡ Given v → (ms : List Made) → Unless (λ u m. FreesOwn u m p) t ms → OwnStays t (track t ms) p)
+
+-- ---- and in time
+
+pub record Decided (t : Track) (p : ℕ) : Type 0 where
+  pub verdict : Verdict
+  pub shown : standing t p ≡ Given verdict
+
+-- "After a primary's last block is acknowledged, its verdict falls by tick T3 + 4096 x T4 + 1, and by tick T3 + 1 if no reply block was
+-- kept." The ticks since that ACK are the onlooker's: each tick that was not refused adds one, and nothing else changes their number
+-- (`OwnMoves`, specs/Moves.antt).
+pub record InTime (t : Track) (p : ℕ) : Type 0 where
+  pub by-limit : t .own p .request ≡ own.acknowledged → verdictLimit (termsIn t) ≤ t .own p .since → Decided t p
+  pub by-silence : t .own p .request ≡ own.acknowledged → t .own p .kept ≡ [] → silenceLimit (termsIn t) ≤ t .own p .since → Decided t p
+
+abbrev pub VerdictFalls : Type 0
+VerdictFalls = AtEach InTime
+
+-- ---- what a user reads of an incoming place
+
+abbrev pub thereBy : IncomingReading → Bool
+thereBy arrival.NoPlace = false
+thereBy (arrival.Place h n c r) = true
+
+abbrev pub completeBy : IncomingReading → Bool
+completeBy arrival.NoPlace = false
+completeBy (arrival.Place h n c r) = c
+
+-- there is a message, and it is complete
+abbrev pub isThere : Track → ℕ → Bool
+isThere t p = thereBy (incomingOf (t .link) p)
+
+abbrev pub isComplete : Track → ℕ → Bool
+isComplete t p = completeBy (incomingOf (t .link) p)
+
+-- What a place shows, exactly when.
+pub record MessageExactly (t : Track) (p : ℕ) : Type 0 where
+  -- complete: the blocks kept since it began are a whole message
+  pub whole : (isComplete t p ≡ true) ↔ ((t .incoming p .begun ≡ true) × Whole (t .incoming p .kept))
+  -- open: they are not yet, and nothing broke it
+  pub open-yet :
+      ((isThere t p ≡ true) × (isComplete t p ≡ false))
+      ↔ ((t .incoming p .begun ≡ true) × (Whole (t .incoming p .kept) → ⊥) × (Breaks (termsIn t) (t .incoming p) → ⊥))
+  -- free: none began since the last release, or it was broken before it was whole ("A broken incoming message frees its place.")
+  pub none :
+      (isThere t p ≡ false)
+      ↔ ((t .incoming p .begun ≡ false) ⊎ ((t .incoming p .begun ≡ true) × (Whole (t .incoming p .kept) → ⊥) × Breaks (termsIn t) (t .incoming p)))
+
+abbrev pub CompleteExactly : Type 0
+CompleteExactly = AtEach MessageExactly
+
+-- "Continues an open message": a block is for this place exactly if it has the number after the last block kept, and all else of them
+abbrev pub TakesExactly : Type 0
+TakesExactly =
+    AtEach (λ t p.
+    (b : Header)
+    → OfMessage (incomingPlace (t .link .exchange) p) b
+    ↔ ((isThere t p ≡ true) × (isComplete t p ≡ false) × Continues (firstOf (t .incoming p .kept)) (length (t .incoming p .kept) + 1) b))
+
+-- header and length that are read
+abbrev pub headerBy : IncomingReading → Header
+headerBy arrival.NoPlace = noHeader
+headerBy (arrival.Place h n c r) = h
+
+abbrev pub lengthBy : IncomingReading → ℕ
+lengthBy arrival.NoPlace = 0
+lengthBy (arrival.Place h n c r) = n
+
+-- they are those of the blocks kept
+pub record Shown (t : Track) (p : ℕ) : Type 0 where
+  pub header : headerBy (incomingOf (t .link) p) ≡ firstOf (t .incoming p .kept)
+  pub size : lengthBy (incomingOf (t .link) p) ≡ t .incoming p .bytes
+
+abbrev pub MessageShown : Type 0
+MessageShown = AtEach (λ t p. isThere t p ≡ true → Shown t p)
+
+-- a complete message: its header and length are as they were
+pub record MessageStays (before after : Track) (p : ℕ) : Type 0 where
+  pub complete : isComplete after p ≡ true
+  pub header : headerBy (incomingOf (after .link) p) ≡ headerBy (incomingOf (before .link) p)
+  pub size : lengthBy (incomingOf (after .link) p) ≡ lengthBy (incomingOf (before .link) p)
+
+-- One call more leaves it so, or is its release.
+abbrev pub MessageKept : Type 0
+MessageKept =
+    AtEach (λ t p. isComplete t p ≡ true → (m : Made) → MessageStays t (next t m) p ⊎ (FreesIncoming t m p × (isThere (next t m) p ≡ false)))
+
+-- It stays until it is released, whatever becomes of our reply.
+abbrev pub CompleteStays : Type 0
+CompleteStays = AtEach (λ t p. isComplete t p ≡ true → (ms : List Made) → Unless (λ u m. FreesIncoming u m p) t ms → MessageStays t (track t ms) p)
+
+-- "or once an incoming message is complete, its area begins with the data of the kept blocks joined": and a user reads them, while the
+-- room comes back; of a message that is still open, those kept so far
+pub record MessageReads (t : Track) (p : ℕ) : Type 0 where
+  pub bytes : incomingData (t .link) (t .room) p ≡ t .joined .messages p
+  pub size : length (t .joined .messages p) ≡ t .incoming p .bytes
+
+abbrev pub MessageRead : Type 0
+MessageRead = (t : Track) → ReachedBack t → (p : ℕ) → p < 4 → isThere t p ≡ true → MessageReads t p
+
+-- ---- our reply to a message: "A reply of ours ends sent or failed in its incoming place."
+
+abbrev pub stageBy : IncomingReading → ReplyStage
+stageBy arrival.NoPlace = NotOwed
+stageBy (arrival.Place h n c r) = r
+
+abbrev pub replyStands : Track → ℕ → ReplyStage
+replyStands t p = stageBy (incomingOf (t .link) p)
+
+-- the message being sent is the reply of incoming place p
+abbrev pub replyFrom : Sending → ℕ → Bool
+replyFrom sending.Nothing p = false
+replyFrom (sending.Primary q n) p = false
+replyFrom (sending.Reply q f n) p = eqb q p
+
+-- It is on its way exactly while it is the message "being sent or held".
+abbrev pub OnItsWayExactly : Type 0
+OnItsWayExactly = AtEach (λ t p. (replyStands t p ≡ OnItsWay) ↔ (replyFrom (t .link .exchange .sending) p ≡ true))
+
+-- its end, which is its verdict
+abbrev pub hasEnded : ReplyStage → Bool
+hasEnded NotOwed = false
+hasEnded Owed = false
+hasEnded OnItsWay = false
+hasEnded Sent = true
+hasEnded Failed = true
+
+-- "at most one verdict and keeps it until released": the whole place is as it was
+pub record EndStays (before after : Track) (p : ℕ) : Type 0 where
+  pub place : incomingPlace (after .link .exchange) p ≡ incomingPlace (before .link .exchange) p
+  pub read-of-it : incomingOf (after .link) p ≡ incomingOf (before .link) p
+  pub shown : replyStands after p ≡ replyStands before p
+
+abbrev pub OneEnd : Type 0
+OneEnd = AtEach (λ t p. hasEnded (replyStands t p) ≡ true → (ms : List Made) → Unless (λ u m. FreesIncoming u m p) t ms → EndStays t (track t ms) p)
