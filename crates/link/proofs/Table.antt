@@ -1,10 +1,16 @@
--- 01's numbers of refusals and notes. Assumes nothing.
+-- 01's numbers of refusals and notes, and 01's proved table. Assumes nothing.
 use mathlib.Core.Path.{_≡_, refl}
 use Rattle.line.specs.Codes.{noteOf}
 use Rattle.line.specs.declared.step.Event.{Event}
 use Rattle.line.specs.declared.step.Event.the-variants as event
 use Rattle.link.specs.Answer.{noteNumber, noteBy}
-use Rattle.link.specs.Table.{RefusalNumbers, NoteNumbers}
+use Rattle.wire.proofs.Table.{sum-table}
+use Rattle.header.proofs.Table.{header-table}
+use Rattle.cut.proofs.Table.{cut-table}
+use Rattle.block.proofs.Table.{block-table}
+use Rattle.table.proofs.Giving.{number-table}
+use Rattle.line.proofs.Table.{limit-met}
+use Rattle.link.specs.Table.{RefusalNumbers, NoteNumbers, ProvedTable}
 
 pub refusal-numbers : RefusalNumbers
 refusal-numbers =
@@ -51,3 +57,6 @@ note-numbers =
       bad-sum = λ r c. refl;
       of-line = of-line;
     }
+
+pub proved-table : ProvedTable
+proved-table = record { sums = sum-table; headers = header-table; blocks = block-table; cuts = cut-table; numbers = number-table; limit = limit-met }

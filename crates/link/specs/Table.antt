@@ -1,6 +1,12 @@
--- 01's numbers of refusals and notes, as the unit gives them ("Refusal numbers and notes").
+-- 01's numbers of refusals and notes, as the unit gives them ("Refusal numbers and notes"); and 01's proved table.
 use Prim.Native.Nat.{ℕ}
 use mathlib.Core.Path.{_≡_}
+use Rattle.wire.specs.Table.{SumTable}
+use Rattle.header.specs.Table.{HeaderTable}
+use Rattle.cut.specs.Table.{CutTable}
+use Rattle.block.specs.Table.{BlockTable}
+use Rattle.table.specs.Theorems.{NumberTable}
+use Rattle.line.specs.Table.{LimitMet}
 use Rattle.line.specs.Codes.{noteOf}
 use Rattle.line.specs.declared.step.Event.{Event}
 use Rattle.line.specs.declared.phase.Fault.the-variants as fault
@@ -43,3 +49,17 @@ pub record NoteNumbers : Type 0 where
   pub bad-sum : (received counted : ℕ) → noteNumber (note.Bad (fault.Sum received counted)) ≡ 31
   -- they are the line's own
   pub of-line : (e : Event) → noteNumber (noteBy e) ≡ noteOf e
+
+-- "Proved as a single table, by one statement about the definitions"
+pub record ProvedTable : Type 0 where
+  -- "the two block sums above (0105, 0107); 254 bytes FF sum FD02"
+  pub sums : SumTable
+  pub headers : HeaderTable
+  -- "N = 9 and 255 refused, 10 and 254 taken"
+  pub blocks : BlockTable
+  -- "0, 244, 245 and 4,096 data bytes make 1, 1, 2 and 17 blocks, the last with N = 10, 254, 11, 202"
+  pub cuts : CutTable
+  -- "number after 65,535 is 1, or 2 while 1 is held"
+  pub numbers : NumberTable
+  -- "804 ticks for RTY 3 and T2 100"
+  pub limit : LimitMet

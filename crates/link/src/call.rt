@@ -109,18 +109,9 @@ impl Link {
     pub fn drained(mut self, room: &mut [u8], out: &mut [u8]) -> Answer
         ensures { λ r. ⌜ left r (now (room .exit)) (now (out .exit)) ≡ drainedCall self (now (room .entry)) (now (out .entry)) ⌝ }
     {
-        let settings = self.settings;
-        let before = self.line;
-        let exchange = self.exchange;
-        match admits(
-            settings,
-            before,
-            exchange,
-            self.block,
-            room.len(),
-            out.len(),
-        ) {
+        match self.gate(room.len(), out.len()) {
             Gate::Open => {
+                let before = self.line;
                 let line = before.drained();
                 self.line = line;
                 self.settles(

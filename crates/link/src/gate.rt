@@ -1,6 +1,7 @@
 // Refusals 1 to 3, which every call that is lent room and output gives before any other.
 //
-// The parts of the unit are handed over one by one: what they are read for does not need the received bytes.
+// `byte` and `tick` hand the parts of the unit over one by one: what they are read for does not need the received bytes, and a copy of
+// the whole unit is what a call costs.
 ghost use mathlib.Core.Path.{_≡_};
 ghost use Rattle.link.specs.State.{gateOf, linkInRange, partsOf};
 use crate::answer::Refusal;
@@ -54,7 +55,17 @@ pub(crate) fn admits(
 }
 
 impl Link {
-    // The same of a whole unit, for a call that is lent no memory.
+    // The same of a whole unit, where a copy of it does not matter.
+    pub(crate) fn gate(self, room: usize, out: usize) -> Gate
+        ensures { λ r. ⌜ r ≡ gateOf self room out ⌝ }
+    {
+        let settings = self.settings;
+        let line = self.line;
+        let exchange = self.exchange;
+        admits(settings, line, exchange, self.block, room, out)
+    }
+
+    // And for a call that is lent no memory.
     pub(crate) fn in_range(self) -> bool
         ensures { λ r. ⌜ r ≡ linkInRange self ⌝ }
     {

@@ -9,7 +9,6 @@ use crate::answer::Note;
 use crate::answer::Outcome;
 use crate::answer::Refusal;
 use crate::gate::Gate;
-use crate::gate::admits;
 use crate::link::Link;
 use exchange::Asked;
 use exchange::Exchange;
@@ -47,19 +46,10 @@ impl Link {
     pub fn open(self, primary: Primary, data: &[u8], room: &mut [u8], out: &mut [u8]) -> Answer
         ensures { λ r. ⌜ left r (now (room .exit)) (now (out .exit)) ≡ openCall self primary (now («data» .entry)) (now (room .entry)) (now (out .entry)) ⌝ }
     {
-        let settings = self.settings;
-        let before = self.line;
-        let exchange = self.exchange;
-        match admits(
-            settings,
-            before,
-            exchange,
-            self.block,
-            room.len(),
-            out.len(),
-        ) {
+        match self.gate(room.len(), out.len()) {
             Gate::Open => {
-                let requested = exchange.open(self.settings.terms, primary, data, room);
+                let before = self.exchange;
+                let requested = before.open(self.settings.terms, primary, data, room);
                 let asked = requested.asked;
                 let after = requested.exchange;
                 self.asked(asked, after, room, out)
@@ -79,19 +69,10 @@ impl Link {
     ) -> Answer
         ensures { λ r. ⌜ left r (now (room .exit)) (now (out .exit)) ≡ replyCall self place function (now («data» .entry)) (now (room .entry)) (now (out .entry)) ⌝ }
     {
-        let settings = self.settings;
-        let before = self.line;
-        let exchange = self.exchange;
-        match admits(
-            settings,
-            before,
-            exchange,
-            self.block,
-            room.len(),
-            out.len(),
-        ) {
+        match self.gate(room.len(), out.len()) {
             Gate::Open => {
-                let requested = exchange.reply(place, function, data, room);
+                let before = self.exchange;
+                let requested = before.reply(place, function, data, room);
                 let asked = requested.asked;
                 let after = requested.exchange;
                 self.asked(asked, after, room, out)

@@ -1,7 +1,6 @@
 -- `link::Link::drained` meets its contract. Assumes nothing.
-use mathlib.Core.Path.{_∙_}
 use Rattle.link.proofs.Gates.{past}
-use Rattle.link.proofs.Turns.{by-parts, opens, shuts, closes}
+use Rattle.link.proofs.Turns.{opens, shuts, closes}
 use borrow.Author.Needs.{needs}
 use Rattle.link.proofs.link.Link.drained.Statement.{statement}
 use Rattle.link.proofs.link.Link.drained.Tie as tie
@@ -11,7 +10,7 @@ drained-spec =
     tie.close
     (tie.spec
     (λ c κs. search needs) (λ c. search needs) (λ c κs. search needs) (λ c κs. search needs)
-    (λ c κs. past (c .before .before .before .before .before .before .before .before .before .before .before .args .self) _ _ (c .before .before .before .before .before .admits .ensures ∙ by-parts (c .before .before .before .before .before .before .before .before .before .before .before .args .self) _ _) (c .before .before .before .enum-told .given .1) .output)
+    (λ c κs. past (c .before .before .before .before .before .before .before .before .before .args .self) _ _ (c .before .before .before .before .before .before .gate .ensures) (c .before .before .before .before .enum-told .given .1) .output)
     (λ c. search needs) (λ c κs. search needs) (λ c. search needs)
-    (λ c. opens (c .before .before .before .before .before .before .before .before .before .before .before .before .before .before .args .self) (c .before .before .before .before .before .before .before .before .before .before .before .before .before .before .args .room .now) (c .before .before .before .before .before .before .before .before .before .before .before .before .before .before .args .out .now) _ (c .before .before .before .before .before .before .before .before .admits .ensures ∙ by-parts (c .before .before .before .before .before .before .before .before .before .before .before .before .before .before .args .self) _ _) (c .before .before .before .before .before .before .enum-told .given .1) (closes _ (rw (c .before .before .before .before .before .drained .ensures, c .before .before .before .before .none .ensures) at (c .before .before .settles .ensures .0)) (rw (c .before .before .before .before .before .drained .ensures) at (c .before .before .settles .ensures .1))))
-    (λ c. shuts (c .before .before .before .before .before .before .before .before .before .before .args .self) (c .before .before .before .before .before .before .before .before .before .before .args .room .now) (c .before .before .before .before .before .before .before .before .before .before .args .out .now) _ _ (c .before .before .before .before .admits .ensures ∙ by-parts (c .before .before .before .before .before .before .before .before .before .before .args .self) _ _) (c .before .before .refusal .given .1) (c .refused .ensures)))
+    (λ c. opens (c .before .before .before .before .before .before .before .before .before .before .before .before .args .self) (c .before .before .before .before .before .before .before .before .before .before .before .before .args .room .now) (c .before .before .before .before .before .before .before .before .before .before .before .before .args .out .now) _ (c .before .before .before .before .before .before .before .before .before .gate .ensures) (c .before .before .before .before .before .before .before .enum-told .given .1) (closes _ (rw (c .before .before .before .before .before .drained .ensures, c .before .before .before .before .none .ensures) at (c .before .before .settles .ensures .0)) (rw (c .before .before .before .before .before .drained .ensures) at (c .before .before .settles .ensures .1))))
+    (λ c. shuts (c .before .before .before .before .before .before .before .args .self) (c .before .before .before .before .before .before .before .args .room .now) (c .before .before .before .before .before .before .before .args .out .now) _ _ (c .before .before .before .before .gate .ensures) (c .before .before .refusal .given .1) (c .refused .ensures)))

@@ -1,7 +1,6 @@
 -- `link::Link::reply` meets its contract. Assumes nothing.
-use mathlib.Core.Path.{_∙_}
 use Rattle.link.proofs.Gates.{past}
-use Rattle.link.proofs.Turns.{by-parts, opens, shuts, requests}
+use Rattle.link.proofs.Turns.{opens, shuts, requests}
 use borrow.Author.Needs.{needs}
 use Rattle.link.proofs.link.Link.reply.Statement.{statement}
 use Rattle.link.proofs.link.Link.reply.Tie as tie
@@ -11,7 +10,7 @@ reply-spec =
     tie.close
     (tie.spec
     (λ c κs. search needs) (λ c. search needs) (λ c κs. search needs)
-    (λ c κs. past (c .before .before .before .before .before .before .before .before .before .before .before .before .before .before .before .before .args .self) _ _ (c .before .before .before .before .before .before .before .before .before .admits .ensures ∙ by-parts (c .before .before .before .before .before .before .before .before .before .before .before .before .before .before .before .before .args .self) _ _) (c .before .before .before .before .before .before .before .enum-told .given .1) .output)
+    (λ c κs. past (c .before .before .before .before .before .before .before .before .before .before .before .before .before .before .args .self) _ _ (c .before .before .before .before .before .before .before .before .before .before .gate .ensures) (c .before .before .before .before .before .before .before .before .enum-told .given .1) .output)
     (λ c. search needs) (λ c κs. search needs) (λ c. search needs) (λ c. search needs)
-    (λ c. opens (c .before .before .before .before .before .before .before .before .before .before .before .before .before .before .before .before .before .before .before .args .self) (c .before .before .before .before .before .before .before .before .before .before .before .before .before .before .before .before .before .before .before .args .room .now) (c .before .before .before .before .before .before .before .before .before .before .before .before .before .before .before .before .before .before .before .args .out .now) _ (c .before .before .before .before .before .before .before .before .before .before .before .before .admits .ensures ∙ by-parts (c .before .before .before .before .before .before .before .before .before .before .before .before .before .before .before .before .before .before .before .args .self) _ _) (c .before .before .before .before .before .before .before .before .before .before .enum-told .given .1) (requests (c .before .before .before .before .before .before .before .before .before .before .before .before .before .before .before .before .before .before .before .args .self) _ (c .before .before .before .before .before .before .before .before .before .before .before .before .before .before .before .before .before .before .before .args .out .now) (c .before .before .before .before .before .before .before .before .reply .ensures) (c .before .before .asked .ensures)))
-    (λ c. shuts (c .before .before .before .before .before .before .before .before .before .before .before .args .self) (c .before .before .before .before .before .before .before .before .before .before .before .args .room .now) (c .before .before .before .before .before .before .before .before .before .before .before .args .out .now) _ _ (c .before .before .before .before .admits .ensures ∙ by-parts (c .before .before .before .before .before .before .before .before .before .before .before .args .self) _ _) (c .before .before .refusal .given .1) (c .refused .ensures)))
+    (λ c. opens (c .before .before .before .before .before .before .before .before .before .before .before .before .before .before .before .before .before .args .self) (c .before .before .before .before .before .before .before .before .before .before .before .before .before .before .before .before .before .args .room .now) (c .before .before .before .before .before .before .before .before .before .before .before .before .before .before .before .before .before .args .out .now) _ (c .before .before .before .before .before .before .before .before .before .before .before .before .before .gate .ensures) (c .before .before .before .before .before .before .before .before .before .before .before .enum-told .given .1) (requests (c .before .before .before .before .before .before .before .before .before .before .before .before .before .before .before .before .before .args .self) _ (c .before .before .before .before .before .before .before .before .before .before .before .before .before .before .before .before .before .args .out .now) (c .before .before .before .before .before .before .before .before .reply .ensures) (c .before .before .asked .ensures)))
+    (λ c. shuts (c .before .before .before .before .before .before .before .before .args .self) (c .before .before .before .before .before .before .before .before .args .room .now) (c .before .before .before .before .before .before .before .before .args .out .now) _ _ (c .before .before .before .before .gate .ensures) (c .before .before .refusal .given .1) (c .refused .ensures)))

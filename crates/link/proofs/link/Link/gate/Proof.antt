@@ -1,0 +1,13 @@
+-- `link::Link::gate` meets its contract. Assumes nothing.
+use mathlib.Core.Path.{_∙_}
+use Rattle.link.proofs.Turns.{by-parts}
+use borrow.Author.Needs.{needs}
+use Rattle.link.proofs.link.Link.gate.Statement.{statement}
+use Rattle.link.proofs.link.Link.gate.Tie as tie
+
+pub gate-spec : {M : Type 1} → statement M
+gate-spec =
+    tie.close
+    (tie.spec
+    (λ c κs. search needs)
+    (λ c. c .admits .ensures ∙ by-parts (c .before .before .before .before .args .self) _ _))
