@@ -1,0 +1,48 @@
+-- `speed::ready::fed` meets its contract. Assumes nothing.
+-- Nothing has to hold from turn to turn. The measure is the bytes that are left.
+use Prim.Native.Nat.{_-_}
+use lib.ListN.{length}
+use borrow.Author.Needs.{needs}
+use Rattle.speed.proofs.ready.fed.Statement.{statement}
+use Rattle.speed.proofs.ready.fed.Tie as tie
+
+abbrev Inv-loop : tie.InvT-loop
+Inv-loop bytes room₀ out₀ unit₀ i₀ room out unit i = Unit
+
+abbrev μ-loop : tie.MeasureT-loop
+μ-loop bytes room₀ out₀ unit₀ i₀ room out unit i = length bytes - i
+
+loop-holds : tie.Need-loop-holds Inv-loop μ-loop
+loop-holds c = search needs
+
+shared-slice-read-byte : tie.Need-shared-slice-read-byte Inv-loop μ-loop
+shared-slice-read-byte c = search needs
+
+byte-requires : tie.Need-byte-requires Inv-loop μ-loop
+byte-requires c κs = search needs
+
+add-i : tie.Need-add-i Inv-loop μ-loop
+add-i c = search needs
+
+loop-less : tie.Need-loop-less Inv-loop μ-loop
+loop-less c = search needs
+
+loop-again : tie.Need-loop-again Inv-loop μ-loop
+loop-again c = search needs
+
+returns : tie.Need-returns Inv-loop μ-loop
+returns c = search needs
+
+pub fed-spec : {M : Type 1} → statement M
+fed-spec =
+    tie.close
+    (tie.spec
+    Inv-loop
+    μ-loop
+    loop-holds
+    shared-slice-read-byte
+    byte-requires
+    add-i
+    loop-less
+    loop-again
+    returns)

@@ -1,0 +1,127 @@
+// Units to start a loop with, made by the unit's own calls.
+use exchange::Primary;
+use link::Link;
+use link::Setup;
+use place::Incoming;
+use place::IncomingStage;
+use place::Own;
+use place::OwnStage;
+use settings::Fifths;
+use settings::Seconds;
+use settings::Tenths;
+
+// A tool's unit. T3 and T4 are 120 s, the longest of both: 1,200 ticks.
+pub(crate) fn fresh() -> Link {
+    let setup = Setup {
+        host: false,
+        t1: Tenths(5),
+        t2: Fifths(50),
+        t3: Seconds(120),
+        t4: Seconds(120),
+        rty: 3,
+        device: 0,
+        duplicates: 1,
+        last: 0,
+    };
+    let answer = Link::start(setup);
+    answer.link
+}
+
+// Sends S1F1 with W, a block without data: ENQ leaves, EOT comes, the block leaves, ACK comes. Then its reply is awaited.
+fn asked(link: Link, room: &mut [u8; 36864], out: &mut [u8; 257]) -> Link {
+    let primary = Primary {
+        source: 1,
+        w: true,
+        stream: 1,
+        function: 1,
+    };
+    let none: [u8; 1] = [0];
+    let opened = link.open(primary, &none[..0], room, out).link;
+    let sending = opened.byte(4, room, out).link;
+    let sent = sending.drained(room, out).link;
+    sent.byte(6, room, out).link
+}
+
+// Takes each byte in turn.
+fn fed(link: Link, bytes: &[u8], room: &mut [u8; 36864], out: &mut [u8; 257]) -> Link {
+    let mut unit = link;
+    let mut i: usize = 0;
+    while i < bytes.len() {
+        let answer = unit.byte(bytes[i], room, out);
+        unit = answer.link;
+        i += 1;
+    }
+    unit
+}
+
+// Takes the first block of a message, with E = 0, so that more are to come: ENQ, length 11, the header with these system bytes,
+// one byte of data, and the sum.
+fn opened(link: Link, system: u8, sum: u8, room: &mut [u8; 36864], out: &mut [u8; 257]) -> Link {
+    let bytes = [5, 11, 0, 0, 0x81, 1, 0, 1, 0, 0, 0, system, 0, 0, sum];
+    fed(link, &bytes, room, out)
+}
+
+// Four replies are awaited, and four messages are open.
+pub(crate) fn waiting(room: &mut [u8; 36864], out: &mut [u8; 257]) -> Link {
+    let one = asked(fresh(), room, out);
+    let two = asked(one, room, out);
+    let three = asked(two, room, out);
+    let four = asked(three, room, out);
+    let five = opened(four, 1, 0x84, room, out);
+    let six = opened(five, 2, 0x85, room, out);
+    let seven = opened(six, 3, 0x86, room, out);
+    opened(seven, 4, 0x87, room, out)
+}
+
+// The timer of an own place whose reply is awaited, else 0.
+fn own_timer(place: Own) -> u64 {
+    let stage = place.stage;
+    match stage {
+        OwnStage::Free => 0,
+        OwnStage::Sending => 0,
+        OwnStage::Awaiting { timer } => timer as u64,
+        OwnStage::Replying {
+            timer: _,
+            next: _,
+            reply: _,
+        } => 0,
+        OwnStage::Done {
+            verdict: _,
+            reply: _,
+        } => 0,
+    }
+}
+
+// The timer of an incoming place whose message is open, else 0.
+fn incoming_timer(place: Incoming) -> u64 {
+    let stage = place.stage;
+    match stage {
+        IncomingStage::Free => 0,
+        IncomingStage::Open {
+            timer,
+            next: _,
+            length: _,
+        } => timer as u64,
+        IncomingStage::Complete { length: _ } => 0,
+        IncomingStage::Replying { length: _ } => 0,
+        IncomingStage::Replied { length: _, end: _ } => 0,
+    }
+}
+
+// The timers of a place of each kind.
+fn timers_at(link: Link, place: usize) -> u64 {
+    let exchange = link.exchange;
+    let own = exchange.own;
+    let incoming = exchange.incoming;
+    let awaited = own_timer(table::own_at(own, place));
+    let opened = incoming_timer(table::incoming_at(incoming, place));
+    std::num::wrapping_add_u64(awaited, opened)
+}
+
+// The eight timers, added.
+pub(crate) fn timers(link: Link) -> u64 {
+    let one = timers_at(link, 0);
+    let two = std::num::wrapping_add_u64(one, timers_at(link, 1));
+    let three = std::num::wrapping_add_u64(two, timers_at(link, 2));
+    std::num::wrapping_add_u64(three, timers_at(link, 3))
+}
