@@ -76,7 +76,27 @@ pub(crate) fn dropped(turns: u64) -> u64 {
     others(turns, &mut room, &mut out)
 }
 
-// So many ticks of a unit.
+// So many ticks with nothing due.
+fn still(turns: u64, room: &mut [u8; 36864], out: &mut [u8; 257]) -> u64 {
+    let mut link = ready::fresh();
+    let mut sum: u64 = 0;
+    let mut i: u64 = 0;
+    while i < turns {
+        let answer = link.tick(room, out);
+        sum = plus(sum, answer.count, answer.link.block);
+        link = answer.link;
+        i += 1;
+    }
+    sum
+}
+
+pub(crate) fn idle(turns: u64) -> u64 {
+    let mut room = [0u8; 36864];
+    let mut out = [0u8; 257];
+    still(turns, &mut room, &mut out)
+}
+
+// So many ticks of a unit that waits.
 fn ticks(
     unit: Link,
     before: u64,
@@ -96,13 +116,6 @@ fn ticks(
     Ticked { link, sum }
 }
 
-pub(crate) fn idle(turns: u64) -> u64 {
-    let mut room = [0u8; 36864];
-    let mut out = [0u8; 257];
-    let done = ticks(ready::fresh(), 0, turns, &mut room, &mut out);
-    done.sum
-}
-
 // The unit starts anew every 1,000 ticks, so that no timer runs out.
 pub(crate) fn waiting(turns: u64) -> u64 {
     let mut room = [0u8; 36864];
@@ -119,7 +132,7 @@ pub(crate) fn waiting(turns: u64) -> u64 {
     wrapping_add_u64(done.sum, ready::timers(done.link))
 }
 
-// One copy in each turn, from one of two units to the other. Which one it is stands in a variable, so no compiler can do without it.
+// One copy in each turn, from one of two units to the other. `block` is counted on in each, so that none can be left out.
 pub(crate) fn copies(turns: u64) -> u64 {
     let link = ready::fresh();
     let mut ring = [link; 2];
