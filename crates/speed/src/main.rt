@@ -9,41 +9,40 @@
 // TURNS is decimal, 100,000,000 at most. Anything else prints `?`.
 //
 // The check value of the first four is the sum, over all turns, of the bytes that were to leave and of the unit's `block`, which is 1
-// in each: so it is TURNS, and 2 more for each block (EOT and ACK, in 258 turns). To that of `waiting` the eight timers are added: it
-// starts anew every 1,000 ticks, so that none runs out, and each is at the ticks since then. That of `copy` is `block` after one was
-// added in each turn: TURNS + 1, modulo 65,536.
+// in each: so it is TURNS, and 2 more for each block of 258 bytes (EOT at its ENQ, ACK at its end). To that of `waiting` the eight
+// timers are added: it starts anew every 1,000 ticks, so that none runs out, and each is at the ticks since then. That of `copy` is
+// `block` after one was added in each turn: TURNS + 1, modulo 65,536.
 mod loops;
 mod ready;
 mod text;
 
+use libc::STDOUT_FILENO;
 use text::Turns;
-
-const STDOUT: i32 = 1;
 
 // A program has no more to say of a word that it can't read.
 fn unreadable() {
-    io::write_all(STDOUT, b"?");
+    io::write_all(STDOUT_FILENO, b"?");
 }
 
 fn run(word: &[u8], turns: u64) {
     if text::is_same(word, b"body") {
-        io::print_decimal(STDOUT, loops::body(turns));
+        io::print_decimal(STDOUT_FILENO, loops::body(turns));
         return;
     }
     if text::is_same(word, b"dropped") {
-        io::print_decimal(STDOUT, loops::dropped(turns));
+        io::print_decimal(STDOUT_FILENO, loops::dropped(turns));
         return;
     }
     if text::is_same(word, b"idle") {
-        io::print_decimal(STDOUT, loops::idle(turns));
+        io::print_decimal(STDOUT_FILENO, loops::idle(turns));
         return;
     }
     if text::is_same(word, b"waiting") {
-        io::print_decimal(STDOUT, loops::waiting(turns));
+        io::print_decimal(STDOUT_FILENO, loops::waiting(turns));
         return;
     }
     if text::is_same(word, b"copy") {
-        io::print_decimal(STDOUT, loops::copies(turns));
+        io::print_decimal(STDOUT_FILENO, loops::copies(turns));
         return;
     }
     unreadable();
@@ -59,5 +58,5 @@ fn main() {
         Turns::Count(turns) => run(&word[..length], turns),
         Turns::Unreadable => unreadable(),
     }
-    io::write_all(STDOUT, b"\n");
+    io::write_all(STDOUT_FILENO, b"\n");
 }
