@@ -1,0 +1,10 @@
+-- The contract of each public function asks nothing and determines the result and every byte of the output. Assumes nothing.
+use mathlib.Core.Path.{sym, _∙_}
+use denote.Ref.{now}
+use Rattle.wire.specs.Determined.{Determined}
+use Rattle.script.specs.Printed.{printing}
+use Rattle.script.proofs.printed.print_line.Reads as print-line-reads
+use Rattle.script.proofs.printed.print_line.Kinds as print-line-kinds
+
+pub print-line-determined : Determined 2 print-line-kinds.ps print-line-kinds.r print-line-reads.Asked print-line-reads.Post (λ κs r s. printing r (now (s .1 .1 .0)))
+print-line-determined κs a = (tt, λ x y s t p q. p ∙ sym q)

@@ -1,0 +1,8 @@
+-- `Scanning`: texts as the loops go over them. `Commanding`: a line as a command. `Printing`: bytes put one behind another, the sizes of
+-- a line's fields, and bytes in hex. `PrintedRules`: what is printed reads back, and is one line. `Determined`: what each public contract
+-- determines.
+pub mod Scanning
+pub mod Commanding
+pub mod Printing
+pub mod PrintedRules
+pub mod Determined

@@ -1,0 +1,32 @@
+-- `put_number` meets its contract. Assumes nothing.
+use borrow.Author.Tests.{le-ltb, lt-ltb}
+use borrow.Author.Needs.{needs}
+use Rattle.script.specs.Printed.{numberText}
+use Rattle.script.proofs.printed.put_number.Statement.{statement}
+use Rattle.script.proofs.printed.put_number.Tie as tie
+
+pub put-number-spec : {M : Type 1} → statement M
+unfolding numberText
+put-number-spec =
+    tie.close
+    (tie.spec
+    (λ c. search needs) (λ c. search needs)
+    (λ c κs. rw (lt-ltb _ _ (c .before .before .if1 .taken)) at (c .before .before .before .before .pre))
+    (λ c. search needs) (λ c. search needs)
+    (λ c. let one = c .before .before .before .before .before in let below = lt-ltb _ _ (one .if1 .taken) in (rw below (c .before .before .put .ensures), rw below))
+    (λ c. search needs) (λ c. search needs)
+    (λ c κs. rw (le-ltb _ _ (c .before .before .before .if1 .left), lt-ltb _ _ (c .before .before .if2 .taken)) at (c .before .before .before .before .before .pre))
+    (λ c. search needs) (λ c. search needs)
+    (λ c.
+    let two = c .before .before .before .before .before in
+    let above = le-ltb _ _ (two .before .if1 .left) in
+    let below = lt-ltb _ _ (two .if2 .taken) in
+    (rw (above, below) (c .before .before .put2 .ensures), rw (above, below)))
+    (λ c. search needs) (λ c. search needs)
+    (λ c κs. rw (le-ltb _ _ (c .before .before .before .if1 .left), le-ltb _ _ (c .before .before .if2 .left)) at (c .before .before .before .before .before .pre))
+    (λ c. search needs) (λ c. search needs)
+    (λ c.
+    let three = c .before .before .before .before .before in
+    let above = le-ltb _ _ (three .before .if1 .left) in
+    let far = le-ltb _ _ (three .if2 .left) in
+    (rw (above, far) (c .before .before .put3 .ensures), rw (above, far))))

@@ -1,0 +1,6 @@
+pub mod Field
+pub mod Number
+pub mod Hex
+pub mod Command
+pub mod Printed
+pub mod PrintedRules

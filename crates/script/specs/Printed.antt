@@ -1,0 +1,69 @@
+-- What bench prints (01: "prints one line each: refusal number or 0, bytes out in hex or `-`, note"; "`V` place prints V, place,
+-- verdict"; "prints `?`").
+use Prim.Native.Nat.{ℕ, _+_, _-_, _/_, _%_}
+use mathlib.Core.Bool.{Bool, false, cond}
+use mathlib.Core.List.{List, [], _∷_, _++_}
+use lib.Dec.{leb, ltb}
+use lib.ListN.{length}
+use Rattle.wire.specs.Lent.{onFront}
+use Rattle.script.specs.Hex.{hexOf}
+use Rattle.script.specs.declared.printed.Printed.{Printed}
+use Rattle.script.specs.declared.printed.Printed.the-variants.{Answer, Verdict, Unreadable}
+
+-- the last decimal digit of a number
+abbrev pub onesOf : ℕ → ℕ
+onesOf n = 48 + n % 10
+
+-- a number up to 255 in decimal, without zeros before it
+unfoldable pub numberText : ℕ → List ℕ
+numberText n =
+    cond (ltb n 10) (onesOf n ∷ [])
+    (cond (ltb n 100) (onesOf (n / 10) ∷ onesOf n ∷ []) ((48 + n / 100) ∷ onesOf (n / 10) ∷ onesOf n ∷ []))
+
+-- a number, and a byte behind it
+abbrev pub numberField : ℕ → ℕ → List ℕ
+numberField n mark = numberText n ++ (mark ∷ [])
+
+-- bytes in hex, or `-`
+abbrev pub dataText : List ℕ → List ℕ
+dataText [] = 0x2D ∷ []
+dataText (b ∷ bs) = hexOf (b ∷ bs)
+
+-- the same, and a space behind them
+abbrev pub dataField : List ℕ → List ℕ
+dataField bytes = dataText bytes ++ (0x20 ∷ [])
+
+abbrev pub answerText : ℕ → List ℕ → ℕ → List ℕ
+answerText number bytes note = numberField number 0x20 ++ (dataField bytes ++ numberField note 0x0A)
+
+abbrev pub verdictText : ℕ → ℕ → List ℕ
+verdictText place verdict = (0x56 ∷ 0x20 ∷ []) ++ (numberField place 0x20 ++ numberField verdict 0x0A)
+
+abbrev pub unreadableText : List ℕ
+unreadableText = 0x3F ∷ 0x0A ∷ []
+
+-- a line, with its end
+abbrev pub textOf : Printed → List ℕ → List ℕ
+textOf (Answer number note) bytes = answerText number bytes note
+textOf (Verdict place verdict) bytes = verdictText place verdict
+textOf Unreadable bytes = unreadableText
+
+-- What printing leaves: how many bytes were put, and every byte of the memory that was lent.
+pub record Printing : Type 0 where
+  pub count : ℕ
+  pub text : List ℕ
+
+abbrev pub printing : ℕ → List ℕ → Printing
+printing n text = record { count = n; text = text }
+
+-- a line at the front of memory that has room for it
+abbrev pub onto : List ℕ → List ℕ → Printing
+onto line text = printing (length line) (onFront line text)
+
+-- all of a line, or nothing where there is no room for all of it
+unfoldable pub printedIn : List ℕ → List ℕ → Printing
+printedIn line text = cond (ltb (length text) (length line)) (printing 0 text) (onto line text)
+
+-- whether so many bytes in hex, or `-`, and a space fit
+unfoldable pub dataFits : ℕ → ℕ → Bool
+dataFits count room = cond (ltb room 2) false (leb count ((room - 1) / 2))
