@@ -14,7 +14,7 @@ use Rattle.wire.specs.Lent.{splice, onFront}
 use Rattle.wire.proofs.Choice.{either, chosen}
 use Rattle.wire.proofs.Lent.{front-more, splice-length}
 use Rattle.script.specs.Hex.{hexOf, twoOf}
-use Rattle.script.specs.Printed.{numberText, numberField, dataField, answerText, verdictText, printing, onto, printedIn, dataFits}
+use Rattle.script.specs.Printed.{Printing, numberText, numberField, dataField, answerText, verdictText, printing, onto, printedIn, dataFits}
 
 pub put-nothing : (out : List ℕ) (i : ℕ) → splice out i [] ≡ out
 unfolding splice
@@ -59,6 +59,12 @@ no-room line text h = rw (lt-ltb _ _ h)
 pub in-room : (line text : List ℕ) → length line ≤ length text → onto line text ≡ printedIn line text
 unfolding printedIn
 in-room line text h = rw (le-ltb _ _ h)
+
+-- what is put lies within the memory
+pub within : (line text : List ℕ) → printedIn line text .count ≤ length text
+unfolding printedIn
+within line text =
+    chosen (λ (p : Printing). p .count ≤ length text) (ltb (length text) (length line)) _ _ (λ e. omega arith) (λ e. ltb-false _ _ e)
 
 -- a number is at most three digits
 pub number-short : (n : ℕ) → length (numberText n) ≤ 3

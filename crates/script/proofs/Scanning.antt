@@ -1,14 +1,14 @@
 -- Texts as the loops go over them: a byte looked for, a number digit by digit, bytes two digits at a time. Assumes nothing.
 use Prim.Native.Nat.{ℕ, zero, suc, _+_, _-_, _*_, _/_, _≤_, _<_}
 use mathlib.Core.Path.{_≡_, refl, sym, ap, _∙_}
-use mathlib.Core.Bool.{Bool, true, false, cond}
+use mathlib.Core.Bool.{true, false, cond}
 use mathlib.Core.List.{List, [], _∷_, _++_}
 use native.Mathlib.Nat.{zero-add}
 use native.Mathlib.Omega.{arith}
 use lib.Dec.{ltb}
 use borrow.Author.Tests.{ltb-false}
-use lib.ListN.{length, take, drop, getD, set}
-use lib.Seq.{take-all, take-length, drop-length, drop-nil, drop-cons, drop-drop, paste, paste-suc}
+use lib.ListN.{length, drop, getD, set}
+use lib.Seq.{take-length, drop-length, drop-nil, drop-cons, drop-drop, paste, paste-suc}
 use Rattle.bytes.specs.Bytes.{slice, indexOf}
 use Rattle.wire.specs.Lent.{onFront}
 use Rattle.wire.proofs.Choice.{chosen}

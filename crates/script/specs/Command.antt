@@ -21,7 +21,7 @@ pub record Told : Type 0 where
 abbrev pub told : Command → List ℕ → Told
 told command bytes = record { command = command; bytes = bytes }
 
--- a line that can't be read says no bytes: "not done in part"
+-- a line that can't be read says no bytes: none is done in part (docs/READINGS.md, 28)
 abbrev pub unread : List ℕ → Told
 unread bytes = told Unreadable bytes
 

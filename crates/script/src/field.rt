@@ -1,4 +1,4 @@
-// The fields of a line: "exactly one space between fields". Two spaces have an empty field between them, and nothing reads as one.
+// The fields of a line: one space between two (docs/READINGS.md, 27). Two spaces have an empty field between them, and nothing reads as one.
 ghost use mathlib.Core.Path.{_≡_};
 ghost use Rattle.script.specs.Field.{behindOf, fieldOf, letterOf};
 

@@ -1,0 +1,2 @@
+-- `Joining`: the calls of a line, one behind another.
+pub mod Joining

@@ -1,0 +1,49 @@
+-- `command` meets its contract. Assumes nothing.
+use Prim.Native.Nat.{ℕ}
+use mathlib.Core.Path.{ap, _∙_}
+use mathlib.Core.List.{List}
+use native.Mathlib.Omega.{arith}
+use Rattle.link.specs.Call.{openCall, replyCall}
+use Rattle.link.specs.Run.{left}
+use Rattle.bench.specs.Run.{running, nothingRan, bytesRun}
+use Rattle.bench.specs.Answer.{done, shownAs, benchOf}
+use Rattle.bench.proofs.Joining.{few, by-call, by-run}
+use mathlib.Core.Bool.{true}
+use Rattle.link.specs.History as call
+use borrow.Author.Needs.{needs}
+use Rattle.bench.proofs.answer.command.Statement.{statement}
+use Rattle.bench.proofs.answer.command.Tie as tie
+
+pub command-spec : {M : Type 1} → statement M
+command-spec =
+    tie.close
+    (tie.spec
+    (λ c. search needs) (λ c κs. search needs) (λ c. search needs) (λ c κs. search needs) (λ c. search needs)
+    (λ c κs. search needs) (λ c κs. search needs)
+    (λ c κs. (omega arith, few (c .before .before .before .before .before .before .before .before .before .before .before .before .before .before .args .link) (c .before .before .before .before .before .before .before .before .before .before .before .before .before .before .args .room .now) (c .before .before .before .before .before .before .before .before .before .before .before .before .before .before .args .out .now) (call.primary _ (c .before .before .before .before .before .before .before .first .result .now)) _ (c .before .before .before .before .open .ensures)))
+    (λ c κs. search needs) (λ c. search needs) (λ c. search needs) (λ c κs. search needs) (λ c κs. search needs)
+    (λ c κs. (omega arith, few (c .before .before .before .before .before .before .before .before .before .before .before .before .before .before .args .link) (c .before .before .before .before .before .before .before .before .before .before .before .before .before .before .args .room .now) (c .before .before .before .before .before .before .before .before .before .before .before .before .before .before .args .out .now) (call.reply _ _ (c .before .before .before .before .before .before .before .first2 .result .now)) _ (c .before .before .before .before .reply .ensures)))
+    (λ c κs. search needs) (λ c. search needs) (λ c. search needs) (λ c κs. search needs)
+    (λ c κs. (omega arith, few (c .before .before .before .before .before .before .before .args .link) (c .before .before .before .before .before .before .before .args .room .now) (c .before .before .before .before .before .before .before .args .out .now) (call.free-own _) _ (ap (λ a. left a (c .before .before .before .before .before .before .before .args .room .now) (c .before .before .before .before .before .before .before .args .out .now)) (c .release-own .ensures))))
+    (λ c κs. search needs) (λ c. search needs) (λ c. search needs) (λ c κs. search needs)
+    (λ c κs. (omega arith, few (c .before .before .before .before .before .before .before .args .link) (c .before .before .before .before .before .before .before .args .room .now) (c .before .before .before .before .before .before .before .args .out .now) (call.free-incoming _) _ (ap (λ a. left a (c .before .before .before .before .before .before .before .args .room .now) (c .before .before .before .before .before .before .before .args .out .now)) (c .release-incoming .ensures))))
+    (λ c κs. search needs) (λ c. search needs) (λ c κs. search needs) (λ c κs. search needs)
+    (λ c κs. search needs) (λ c. search needs) (λ c κs. search needs) (λ c κs. search needs) (λ c. search needs)
+    (λ c κs. search needs)
+    (λ c κs. (omega arith, few (c .before .before .before .before .before .before .before .before .before .before .before .before .args .link) (c .before .before .before .before .before .before .before .before .before .before .before .before .args .room .now) (c .before .before .before .before .before .before .before .before .before .before .before .before .args .out .now) call.drained _ (c .before .before .before .before .drained .ensures)))
+    (λ c κs. search needs) (λ c. search needs) (λ c κs. search needs)
+    (λ c. simp (c .before .enum-told .given .1) (ap (λ s. done s (c .before .before .before .before .before .before .args .room .now) (c .before .before .before .before .before .before .args .out .now)) (c .unreadable .ensures)))
+    (λ c. simp (c .before .before .command .given .1) (ap (λ s. done s (c .before .before .before .before .before .before .before .args .room .now) (c .before .before .before .before .before .before .before .args .out .now)) (c .start .ensures)))
+    (λ c. search needs) (λ c. search needs)
+    (λ c. simp (c .before .before .before .before .before .before .before .before .before .before .before .command2 .given .1) (by-call (c .before .before .before .before .before .before .before .before .before .before .before .before .before .before .before .before .args .out .now) _ _ _ _ _ _ (c .ran .ensures) (c .before .joined .ensures) (c .before .before .before .before .before .before .open .ensures ∙ ap (λ (d : List ℕ). openCall (c .before .before .before .before .before .before .before .before .before .before .before .before .before .before .before .before .args .link) (c .before .before .before .before .before .before .before .before .before .before .before .command2 .given .0 .0) d (c .before .before .before .before .before .before .before .before .before .before .before .before .before .before .before .before .args .room .now) (c .before .before .before .before .before .before .before .before .before .before .before .before .before .before .before .before .args .out .now)) (c .before .before .before .before .before .before .before .before .before .first .ensures))))
+    (λ c. search needs) (λ c. search needs)
+    (λ c. simp (c .before .before .before .before .before .before .before .before .before .before .before .command3 .given .1) (by-call (c .before .before .before .before .before .before .before .before .before .before .before .before .before .before .before .before .args .out .now) _ _ _ _ _ _ (c .ran2 .ensures) (c .before .joined2 .ensures) (c .before .before .before .before .before .before .reply .ensures ∙ ap (λ (d : List ℕ). replyCall (c .before .before .before .before .before .before .before .before .before .before .before .before .before .before .before .before .args .link) (c .before .before .before .before .before .before .before .before .before .before .before .command3 .given .0 .0) (c .before .before .before .before .before .before .before .before .before .before .before .command3 .given .0 .1 .0) d (c .before .before .before .before .before .before .before .before .before .before .before .before .before .before .before .before .args .room .now) (c .before .before .before .before .before .before .before .before .before .before .before .before .before .before .before .before .args .out .now)) (c .before .before .before .before .before .before .before .before .before .first2 .ensures))))
+    (λ c. simp (c .before .before .before .before .command4 .given .1) (by-call (c .before .before .before .before .before .before .before .before .before .args .out .now) _ _ _ _ _ _ (c .ran3 .ensures) (c .before .joined3 .ensures) (ap (λ a. left a (c .before .before .before .before .before .before .before .before .before .args .room .now) (c .before .before .before .before .before .before .before .before .before .args .out .now)) (c .before .before .release-own .ensures))))
+    (λ c. simp (c .before .before .before .before .command5 .given .1) (by-call (c .before .before .before .before .before .before .before .before .before .args .out .now) _ _ _ _ _ _ (c .ran4 .ensures) (c .before .joined4 .ensures) (ap (λ a. left a (c .before .before .before .before .before .before .before .before .before .args .room .now) (c .before .before .before .before .before .before .before .before .before .args .out .now)) (c .before .before .release-incoming .ensures))))
+    (λ c. search needs) (λ c. search needs)
+    (λ c. simp (c .before .before .before .before .before .before .before .before .before .before .command6 .given .1) (by-run _ _ _ _ _ (c .ran5 .ensures) (c .before .before .before .before .before .bytes .ensures ∙ ap (bytesRun (running (nothingRan (c .before .before .before .before .before .before .before .before .before .before .before .before .before .before .before .args .link)) (c .before .before .before .before .before .before .before .before .before .before .before .before .before .before .before .args .room .now) (c .before .before .before .before .before .before .before .before .before .before .before .before .before .before .before .args .out .now))) (c .before .before .before .before .before .before .before .before .first3 .ensures))))
+    (λ c. search needs) (λ c. search needs)
+    (λ c. simp (c .before .before .before .before .before .before .before .before .before .command7 .given .1) (by-run _ _ _ _ _ (c .ran6 .ensures) (c .before .before .before .before .before .ticks .ensures)))
+    (λ c. search needs) (λ c. search needs)
+    (λ c. simp (c .before .before .before .before .before .before .before .before .before .enum-told2 .given .1) (by-call (c .before .before .before .before .before .before .before .before .before .before .before .before .before .before .args .out .now) _ _ _ _ _ _ (c .ran7 .ensures) (c .before .joined5 .ensures) (c .before .before .before .before .before .before .drained .ensures)))
+    (λ c. simp (c .before .before .command8 .given .1) (ap (λ p. done (shownAs (benchOf true (c .before .before .before .before .before .before .before .args .link)) p 0) (c .before .before .before .before .before .before .before .args .room .now) (c .before .before .before .before .before .before .before .args .out .now)) (c .verdict .ensures))))

@@ -1,0 +1,19 @@
+-- `byte` meets its contract. Assumes nothing.
+use Prim.Native.Nat.{_-_}
+use native.Mathlib.Omega.{arith}
+use lib.ListN.{length, take, drop}
+use Rattle.link.specs.Call.{byteCall}
+use Rattle.bench.proofs.Joining.{joined-back, few, fits}
+use Rattle.link.specs.History as call
+use borrow.Author.Needs.{needs}
+use Rattle.bench.proofs.run.byte.Statement.{statement}
+use Rattle.bench.proofs.run.byte.Tie as tie
+
+pub byte-spec : {M : Type 1} → statement M
+byte-spec =
+    tie.close
+    (tie.spec
+    (λ c. search needs) (λ c. search needs) (λ c. search needs) (λ c κs. search needs)
+    (λ c κs. (omega (arith, c .before .before .before .before .before .before .before .before .before .before .pre), few (c .before .before .before .before .before .before .before .before .before .before .args .ran .link) (c .before .before .before .before .before .before .before .before .before .before .args .room .now) (take (length (c .before .before .before .before .before .before .before .before .before .before .args .out .now) - c .before .before .before .before .before .before .before .before .before .before .args .ran .count) (drop (c .before .before .before .before .before .before .before .before .before .before .args .ran .count) (c .before .before .before .before .before .before .before .before .before .before .args .out .now))) (call.byte (c .before .before .before .before .before .before .before .before .before .before .args .b) (c .before .before .before .before .before .before .before .before .before .before .fits .b .fits)) _ (c .before .before .before .before .byte .ensures)))
+    (λ c. search needs) (λ c. search needs)
+    (λ c. joined-back (byteCall (c .before .before .before .before .before .before .before .before .before .before .before .args .ran .link) (c .before .before .before .before .before .before .before .before .before .before .before .args .b) (c .before .before .before .before .before .before .before .before .before .before .before .args .room .now)) (c .before .before .before .before .before .before .before .before .before .before .before .args .out .now) _ _ (c .before .before .before .before .before .before .before .before .before .before .before .args .ran .count) _ _ (c .before .before .before .before .before .before .before .before .before .before .before .pre .0) (c .before .before .before .before .before .byte .ensures) (c .joined .ensures)))
