@@ -1,2 +1,3 @@
--- `Joining`: the calls of a line, one behind another.
+-- `Joining`: the calls of a line, one behind another. `Listing`: 01's listing.
 pub mod Joining
+pub mod Listing

@@ -1,6 +1,6 @@
 -- What a line does, and what is printed for it (01, "Bench program and proved table").
 use Prim.Native.Nat.{ℕ}
-use mathlib.Core.Bool.{Bool, true, cond}
+use mathlib.Core.Bool.{Bool, true, false, cond}
 use mathlib.Core.List.{List}
 use lib.Dec.{eqb}
 use lib.ListN.{take, replicate}
@@ -41,6 +41,20 @@ benchOf started u = record { started = started; link = u }
 
 abbrev pub shownAs : Bench → Printed → ℕ → Shown
 shownAs b p count = record { bench = b; printed = p; count = count }
+
+-- before the first start; no call is made on this unit
+abbrev pub nothingStarted : Bench
+nothingStarted = benchOf false (startOf (record {
+  host = false;
+  t1 = record { 0 = 0 };
+  t2 = record { 0 = 0 };
+  t3 = record { 0 = 0 };
+  t4 = record { 0 = 0 };
+  rty = 0;
+  device = 0;
+  duplicates = 0;
+  last = 0;
+}) .link)
 
 -- `?`, and all is as it was
 abbrev pub unreadShown : Bench → Shown

@@ -2,7 +2,7 @@
 ghost use mathlib.Core.Path.{_≡_};
 ghost use Prim.Native.Nat.{_≤_};
 ghost use lib.ListN.{length, take};
-ghost use Rattle.bench.specs.Answer.{commandDone, done, earlyShown, lineDone, shownRan, standingNumber, startShown, unreadShown, verdictBy};
+ghost use Rattle.bench.specs.Answer.{commandDone, done, earlyShown, lineDone, nothingStarted, shownRan, standingNumber, startShown, unreadShown, verdictBy};
 ghost use Rattle.link.specs.Reading.{ownOf};
 use crate::run;
 use crate::run::Ran;
@@ -30,7 +30,9 @@ pub(crate) struct Shown {
 }
 
 // Before the first start. No call is made on this unit.
-pub(crate) fn nothing_started() -> Bench {
+pub(crate) fn nothing_started() -> Bench
+    ensures { λ r. ⌜ r ≡ nothingStarted ⌝ }
+{
     let setup = Setup {
         host: false,
         t1: Tenths(0),

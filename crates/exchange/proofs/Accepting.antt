@@ -27,7 +27,7 @@ use Rattle.table.specs.declared.find.Found.{Found}
 use Rattle.table.specs.declared.find.Found.the-variants.{At, Nowhere}
 use Rattle.exchange.specs.Exchange.{ownPlace, incomingPlace, gotVerdict, latestAfter, putOwn, putIncoming, withSending}
 use Rattle.exchange.specs.Send.{replyTo}
-use Rattle.exchange.specs.Request.{Asking, refusedBy, refused, primaryHeader, badPrimary, badFunction, dataLong, isSending, notReady, claimedAt, openBy, openFree, openOf, replyAccepted, replyReady, replyOf, releaseOwn, releaseIncoming}
+use Rattle.exchange.specs.Request.{Asking, refusalNumber, askedNumber, refusedBy, refused, primaryHeader, badPrimary, badFunction, dataLong, isSending, notReady, claimedAt, openBy, openFree, openOf, replyAccepted, replyReady, replyOf, releaseOwn, releaseIncoming}
 use Rattle.exchange.specs.Rules.{Fours, LowestAt}
 use Rattle.exchange.specs.Refusals.{OwnFree, numbered, RefusedChangesNothing, numberGiven, AsAsked, Opened, AcceptedOpens, RepliesTo, Replied, AcceptedReplies, OwnReleased, IncomingReleased, AcceptedReleases}
 use Rattle.exchange.specs.declared.exchange.Exchange.{Exchange}
@@ -83,6 +83,19 @@ by-replying x p f d room P refuse take =
     (λ l. chosen P (isSending x) _ _ (λ s. refuse refusal.Sending) (λ s. take ready new))))))
 
 -- ---- refused
+
+-- 5 to 11
+no-zero : (r : Refusal) → refusalNumber r ≢ 0
+no-zero refusal.Message e = omega arith
+no-zero refusal.DataLong e = omega arith
+no-zero refusal.Sending e = omega arith
+no-zero refusal.NoPlace e = omega arith
+no-zero refusal.Place e = omega arith
+no-zero refusal.NotWanted e = omega arith
+no-zero refusal.Replied e = omega arith
+
+pub refused-number : (a : Asked) (r : Refusal) → a ≡ Refused r → askedNumber a ≢ 0
+refused-number a r e z = no-zero r (sym (ap askedNumber e) ∙ z)
 
 pub refused-changes-nothing : RefusedChangesNothing
 unfolding refused refusedBy replyAccepted releaseOwn releaseIncoming

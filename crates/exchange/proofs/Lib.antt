@@ -3,7 +3,7 @@
 -- `Cases`: judging and the requests case by case; on it `Tables`, `Filling`, `Holding`, `Joining`, `Areas`: what the areas begin with after
 -- any calls; `Watching`, `Inside`: each place goes through events of a place, as its onlooker sees them; `Flagging`, `Telling`: what the
 -- flags tell. `Repeated`, `Judged`, `Blocks`, `Growing`, `Assembling`, `Answering`: the blocks of a cut message, judged in order, are the
--- message. `Determined`: what each public contract determines.
+-- message. `Numbering`: the transaction numbers. `Determined`: what each public contract determines.
 pub mod Alike
 pub mod Tests
 pub mod Finding
@@ -32,3 +32,4 @@ pub mod Assembling
 pub mod Answering
 pub mod Determined
 pub mod Stilling
+pub mod Numbering

@@ -1,19 +1,21 @@
 -- Each call raises the flags of what it does to the places. Assumes nothing.
-use Prim.Native.Nat.{ℕ, zero, suc, _<_}
+use Prim.Native.Nat.{ℕ, zero, suc, _≤_, _<_}
 use mathlib.Core.Path.{_≡_, refl, sym, ap, _∙_, subst}
-use mathlib.Core.Bool.{Bool, true, false, and-false, false≢true}
+use mathlib.Core.Bool.{Bool, true, false, false≢true}
 use mathlib.Core.List.{List, [], _∷_, map}
-use mathlib.Core.Logic.{_⊎_, inl, inr}
+use mathlib.Core.Logic.{_↔_, _⊎_, inl, inr, ⊎-elim}
 use native.Mathlib.Omega.{arith}
 use lib.ListN.{length, set, List·getD-map}
 use Rattle.header.specs.Header.{headerOf}
 use Rattle.header.specs.declared.header.Header.{Header}
 use Rattle.settings.specs.declared.terms.Terms.{Terms}
 use Rattle.settings.proofs.Timers.{by-timer}
-use Rattle.wire.proofs.Choice.{both}
-use Rattle.place.specs.Fate.{fateOf}
+use Rattle.wire.proofs.Choice.{either, chosen, both}
+use Rattle.place.specs.Fate.{beginsPrimary, fateOf}
+use Rattle.place.specs.Message.{LacksData}
 use Rattle.place.specs.Own.{ownTick, ownOffered, ownSent, ownFailed}
-use Rattle.place.specs.Incoming.{freshIncoming, incomingIsComplete, incomingIsOpen, openAt, freeAt, completeAt, incomingTick, openTick, openBy, incomingLength, incomingTakes, keptBy, begunBy, endedAt}
+use Rattle.place.specs.Incoming.{freshIncoming, incomingIsComplete, incomingIsOpen, incomingIsFree, openAt, freeAt, completeAt, incomingTick, openTick, openBy, incomingLength, incomingTakes, keptBy, begunBy, endedAt}
+use Rattle.place.proofs.Messages.{by-fate}
 use Rattle.place.specs.declared.fate.Fate.{Fate}
 use Rattle.place.specs.declared.fate.Fate.the-variants as fate
 use Rattle.place.specs.declared.incoming.End.{End}
@@ -21,20 +23,27 @@ use Rattle.place.specs.declared.incoming.End.the-variants as end
 use Rattle.place.specs.declared.incoming.IncomingStage.{IncomingStage}
 use Rattle.place.specs.declared.incoming.IncomingStage.the-variants as arrival
 use Rattle.place.specs.declared.incoming.Incoming.{Incoming}
-use Rattle.table.specs.Own.{ownAt}
-use Rattle.table.specs.Incoming.{incomingAt}
+use Rattle.table.specs.Own.{ownAt, replyFor}
+use Rattle.table.specs.Incoming.{incomingAt, messageFor}
+use Rattle.table.specs.declared.find.Found.the-variants.{Nowhere}
 use Rattle.table.proofs.Finding.{message-lowest, open-alike-lowest}
 use Rattle.exchange.specs.Flags.{noMarks, markAt, noFlags, incomingFlags}
 use Rattle.exchange.specs.Exchange.{ownPlace, incomingPlace, gotVerdict, putOwn, putIncoming, withSending, savedNow}
 use Rattle.exchange.specs.Tick.{wasDropped, tickOf}
 use Rattle.exchange.specs.Send.{endedOwn, endedReply, sentBy, failedBy}
-use Rattle.exchange.specs.Judge.{Judging, thrown, lastBy, spoiltBy, replyBlock, messageBlock, beginsAt, judgeOf}
-use Rattle.exchange.specs.Theorems.{flagAt, becameComplete, Flagged, FlagsExactly}
-use Rattle.exchange.proofs.Cases.{Thrown, Takes, by-judge}
+use Rattle.exchange.specs.Judge.{Judging, thrown, isMisrouted, isDuplicate, lastBy, spoiltBy, replyBlock, messageBlock, beginsAt, judgeOf}
+use Rattle.exchange.specs.Rules.{Fours}
+use Rattle.exchange.specs.Theorems.{flagAt, becameGiven, becameComplete, Dropped, ThrowsOut, noneThrown, Flagged, FlagsExactly}
+use Rattle.exchange.proofs.Finding.{found}
+use Rattle.exchange.proofs.Judging.{duplicate, begins, reply-here, message-here}
+use Rattle.exchange.proofs.Leaving.{place-taken}
+use Rattle.exchange.proofs.Cases.{Takes, by-judge}
 use Rattle.exchange.proofs.Joining.{offered-kept}
 use Rattle.exchange.proofs.Areas.{taken-place, begun-at}
-use Rattle.exchange.proofs.Flagging.{unmarked, unflagged, own-flagged, incoming-flagged}
+use Rattle.exchange.proofs.Watching.{right-way}
+use Rattle.exchange.proofs.Flagging.{unmarked, marked-here, Forced, unflagged, own-flagged, incoming-flagged}
 use Rattle.exchange.specs.declared.note.Note.{Note}
+use Rattle.exchange.specs.declared.note.Note.the-variants.{Misrouted, Duplicate}
 use Rattle.exchange.specs.declared.exchange.Sending.{Sending}
 use Rattle.exchange.specs.declared.exchange.Sending.the-variants as sending
 use Rattle.exchange.specs.declared.exchange.Exchange.{Exchange}
@@ -75,54 +84,95 @@ module _ (i : Incoming) (incomplete : incomingIsComplete i ≡ false) where
   begun-complete h n (fate.Last k) e = sym (rw incomplete)
   begun-complete h n (fate.More k) e = sym (rw incomplete)
 
-kept-dropped : (i : Incoming) (n : ℕ) (f : Fate) → wasDropped i (keptBy i n f) ≡ true → spoiltBy f ≡ true
-unfolding wasDropped
-kept-dropped i n fate.Empty e = refl
-kept-dropped i n fate.TooLong e = refl
-kept-dropped i n (fate.Last k) e = absurd (false≢true (sym (and-false (incomingIsOpen i)) ∙ e))
-kept-dropped i n (fate.More k) e = absurd (false≢true (sym (and-false (incomingIsOpen i)) ∙ e))
+-- an open message is dropped by a block that spoils it, and by no other
+kept-dropped : (i : Incoming) → incomingIsOpen i ≡ true → (n : ℕ) (f : Fate) → (spoiltBy f ≡ true) ↔ Dropped i (keptBy i n f)
+kept-dropped i opened n fate.Empty = (λ e. record { was-open = opened; is-free = refl }, λ d. refl)
+kept-dropped i opened n fate.TooLong = (λ e. record { was-open = opened; is-free = refl }, λ d. refl)
+kept-dropped i opened n (fate.Last k) = (λ e. absurd (false≢true e), λ d. absurd (false≢true (d .is-free)))
+kept-dropped i opened n (fate.More k) = (λ e. absurd (false≢true e), λ d. absurd (false≢true (d .is-free)))
 
-begun-dropped : (i : Incoming) (h : List ℕ) (n : ℕ) (f : Fate) (gone : Bool) → spoiltBy f ≡ false → wasDropped i (begunBy i h n f) ≡ true → gone ≡ true
-unfolding wasDropped
-begun-dropped i h n fate.Empty gone e w = absurd (false≢true (sym e))
-begun-dropped i h n fate.TooLong gone e w = absurd (false≢true (sym e))
-begun-dropped i h n (fate.Last k) gone e w = absurd (false≢true (sym (and-false (incomingIsOpen i)) ∙ w))
-begun-dropped i h n (fate.More k) gone e w = absurd (false≢true (sym (and-false (incomingIsOpen i)) ∙ w))
+-- no place is free where a message begins
+begun-there : (i : Incoming) (h : List ℕ) (n : ℕ) (f : Fate) → spoiltBy f ≡ false → Dropped i (begunBy i h n f) → ⊥
+begun-there i h n fate.Empty e d = false≢true (sym e)
+begun-there i h n fate.TooLong e d = false≢true (sym e)
+begun-there i h n (fate.Last k) e d = false≢true (d .is-free)
+begun-there i h n (fate.More k) e d = false≢true (d .is-free)
 
--- a place that is thrown out of is open
-gone-open : (x : Exchange) (b : Header) (p : ℕ) (gone : Bool) → length (x .incoming) ≡ 4 → Takes x b p gone → gone ≡ true → incomingIsOpen (incomingPlace x p) ≡ true
-gone-open x b p true four t e = open-alike-lowest (x .incoming) b four .at p .0 t .1 .0
-gone-open x b p false four t e = absurd (false≢true e)
+-- a first block that is kept has data, and fits
+kept-fits : (b : Header) (n : ℕ) → spoiltBy (fateOf b 0 n) ≡ false → (LacksData b n → ⊥) × (n ≤ 4096)
+kept-fits b n =
+    by-fate b 0 n (λ f. spoiltBy f ≡ false → (LacksData b n → ⊥) × (n ≤ 4096))
+    (λ l e. absurd (false≢true (sym e))) (λ has l e. absurd (false≢true (sym e))) (λ has e l s. (has, omega arith)) (λ has e l k s. (has, omega arith))
 
-module _ (c : Terms) (x : Exchange) (own-four : length (x .own) ≡ 4) (incoming-four : length (x .incoming) ≡ 4) where
+module _ (c : Terms) (x : Exchange) (four : Fours x) (h d : List ℕ) where
+  -- a new primary that takes the place of an open message throws that one out
+  throws-out : (p : ℕ) (gone : Bool) (f : Fate) → isMisrouted c (headerOf h) ≡ false → isDuplicate c x h ≡ false → replyFor (x .own) (headerOf h) ≡ Nowhere
+      → messageFor (x .incoming) (headerOf h) ≡ Nowhere → beginsPrimary (headerOf h) ≡ true → fateOf (headerOf h) 0 (length d) ≡ f
+      → spoiltBy f ≡ false → Takes x (headerOf h) p gone → gone ≡ true → ThrowsOut c x h d p
+  throws-out p true f q u r m o e s t g =
+      let fit = kept-fits (headerOf h) (length d) (ap spoiltBy e ∙ s) in
+      let low = open-alike-lowest (x .incoming) (headerOf h) (four .incoming) .at p .0 t in
+      record {
+        primary = record {
+          new = record { routed = right-way c (headerOf h) q; no-duplicate = λ z. false≢true (sym u ∙ duplicate c x h .1 z) };
+          no-reply = λ z. false≢true (sym (ap found r) ∙ reply-here x four (headerOf h) .1 z);
+          no-message = λ z. false≢true (sym (ap found m) ∙ message-here x four (headerOf h) .1 z);
+          begins = begins (headerOf h) .0 o;
+          has-data = fit .0;
+          fits = fit .1;
+        };
+        alike = record { within = low .0; so = low .1; none-below = low .2 };
+      }
+  throws-out p false f q u r m o e s t g = absurd (false≢true g)
+
+  -- and the place is flagged
+  out-flagged : (room : List ℕ) → Forced (ThrowsOut c x h d) (judgeOf c x h d room .answer .flags)
+  out-flagged room p k w =
+      ap (λ (j : Judging). flagAt (j .answer .flags .dropped) p) (place-taken c x h d room four (w .primary) .alike p (w .alike)) ∙ marked-here p true k
+
   abbrev After : Judging → Type 0
-  After j = Flagged x (j .answer .exchange) (j .answer .flags)
+  After j = Forced (ThrowsOut c x h d) (j .answer .flags) → Flagged x (j .answer .exchange) (ThrowsOut c x h d) (j .answer .flags)
 
-  outcast : (h room : List ℕ) (n : Note) → Thrown n → After (thrown (savedNow x h) n room)
-  unfolding thrown savedNow
-  outcast h room n t = unflagged x (savedNow x h) refl refl
+  thrown-after : (n : Note) (room : List ℕ) → After (thrown x n room)
+  unfolding thrown
+  thrown-after n room = unflagged x x (ThrowsOut c x h d) refl refl
 
-  judged-flags : (h d room : List ℕ) → After (judgeOf c x h d room)
+  -- a block that is not new
+  old-after : (room : List ℕ) → isDuplicate c x h ≡ true → After (judgeOf c x h d room)
+  unfolding judgeOf
+  old-after room u = rw u (chosen After (isMisrouted c (headerOf h)) _ _ (λ e. thrown-after Misrouted room) (λ e. thrown-after Duplicate room))
+
+  new-after : (room : List ℕ) → isDuplicate c x h ≡ false → After (judgeOf c x h d room)
   unfolding thrown replyBlock messageBlock beginsAt savedNow putOwn putIncoming
-  judged-flags h d room =
+  new-after room u =
       let b = headerOf h in
-      by-judge c x h d room After (λ e. unflagged x x refl refl) (λ e u. unflagged x x refl refl)
-      (λ p q r. own-flagged x _ p (ownOffered (ownPlace x p) b (length d)) own-four refl refl)
+      let T = ThrowsOut c x h d in
+      by-judge c x h d room After (λ e. thrown-after Misrouted room) (λ e u. thrown-after Duplicate room)
+      (λ p q r. own-flagged x _ T p (ownOffered (ownPlace x p) b (length d)) (four .own) refl refl)
       (λ p q r m.
       let i = incomingPlace x p in
-      let t = message-lowest (x .incoming) b incoming-four .at p .0 m .1 in
+      let t = message-lowest (x .incoming) b (four .incoming) .at p .0 m .1 in
       let o = takes-open (i .header) (i .stage) b t in
+      let f = fateOf b (incomingLength i) (length d) in
+      let gone = kept-dropped i o (b .number) f in
       rw (offered-kept i b (length d) t)
-      (incoming-flagged x _ p _ _ _ incoming-four refl refl (kept-complete i (open-incomplete (i .stage) (inr o)) (b .number) (fateOf b (incomingLength i) (length d))) (kept-dropped i (b .number) (fateOf b (incomingLength i) (length d))) (λ e. o)))
-      (λ p gone f q r m o e u t.
+      (incoming-flagged x _ T p _ _ _ (four .incoming) refl refl (kept-complete i (open-incomplete (i .stage) (inr o)) (b .number) f) (gone .1) (λ e. inl (gone .0 e))))
+      (λ p gone f q r m o e s t.
       let i = incomingPlace x p in
-      let w = taken-place x b p gone incoming-four t in
+      let w = taken-place x b p gone (four .incoming) t in
       rw (← e)
       (begun-at h d (i .header) (i .stage)
-      (λ a. Flagged x (record { own = x .own; incoming = set (x .incoming) p a; saved = record { any = true; header = h }; numbers = x .numbers; sending = x .sending }) (incomingFlags p (lastBy (fateOf b 0 (length d))) gone))
+      (λ a.
+      let raised = incomingFlags p (lastBy (fateOf b 0 (length d))) gone in
+      let y : Exchange = record { own = x .own; incoming = set (x .incoming) p a; saved = record { any = true; header = h }; numbers = x .numbers; sending = x .sending } in
+      Forced T raised → Flagged x y T raised)
       (w .1)
-      (incoming-flagged x _ p _ _ gone incoming-four refl refl (begun-complete i (open-incomplete (i .stage) (w .1)) h (b .number) (fateOf b 0 (length d)) (ap spoiltBy e ∙ u)) (begun-dropped i h (b .number) (fateOf b 0 (length d)) gone (ap spoiltBy e ∙ u)) (gone-open x b p gone incoming-four t))))
-      (λ n t r m. outcast h room n t)
+      (incoming-flagged x _ T p _ _ gone (four .incoming) refl refl (begun-complete i (open-incomplete (i .stage) (w .1)) h (b .number) (fateOf b 0 (length d)) (ap spoiltBy e ∙ s))
+      (λ z. absurd (begun-there i h (b .number) (fateOf b 0 (length d)) (ap spoiltBy e ∙ s) z)) (λ g. inr (throws-out p gone f q u r m o e s t g)))))
+      (λ n t r m. unflagged x _ T refl refl)
+
+  judged-flags : (room : List ℕ) → Flagged x (judgeOf c x h d room .answer .exchange) (ThrowsOut c x h d) (judgeOf c x h d room .answer .flags)
+  judged-flags room = either (isDuplicate c x h) (λ t. After (judgeOf c x h d room)) (old-after room) (new-after room) (out-flagged room)
 
 -- ---- a tick
 
@@ -144,22 +194,22 @@ tick-incomplete c h (arrival.Complete n) = refl
 tick-incomplete c h (arrival.Replying n) = refl
 tick-incomplete c h (arrival.Replied n e) = refl
 
-dropped-open : (i j : Incoming) → wasDropped i j ≡ true → incomingIsOpen i ≡ true
-unfolding wasDropped
-dropped-open i j e = both (incomingIsOpen i) _ .0 e .0
-
-tick-flags : (c : Terms) (x : Exchange) → Flagged x (tickOf c x .exchange) (tickOf c x .flags)
-unfolding tickOf
+tick-flags : (c : Terms) (x : Exchange) → Flagged x (tickOf c x .exchange) noneThrown (tickOf c x .flags)
+unfolding tickOf gotVerdict becameGiven wasDropped
 tick-flags c x =
     record {
       verdicts = four-at (λ p. gotVerdict (ownPlace x p) (ownAt (map (ownTick c) (x .own)) p));
       completed = λ p k.
           let i = incomingPlace x p in
           unmarked p k ∙ sym (ap (becameComplete i) (List·getD-map (incomingTick c) (x .incoming) p freshIncoming) ∙ tick-incomplete c (i .header) (i .stage));
-      dropped = λ p k e. four-at (λ p. wasDropped (incomingPlace x p) (incomingAt (map (incomingTick c) (x .incoming)) p)) p k ∙ e;
-      was-open = λ p k e.
-          dropped-open (incomingPlace x p) (incomingAt (map (incomingTick c) (x .incoming)) p)
-          (sym (four-at (λ p. wasDropped (incomingPlace x p) (incomingAt (map (incomingTick c) (x .incoming)) p)) p k) ∙ e);
+      dropped = λ p k.
+          let i = incomingPlace x p in
+          let j = incomingAt (map (incomingTick c) (x .incoming)) p in
+          let same = four-at (λ p. wasDropped (incomingPlace x p) (incomingAt (map (incomingTick c) (x .incoming)) p)) p k in
+          let gone = both (incomingIsOpen i) (incomingIsFree j) in (
+            λ e. let w = gone .0 (sym same ∙ e) in inl (record { was-open = w .0; is-free = w .1 }),
+            ⊎-elim (λ d. same ∙ gone .1 (d .was-open, d .is-free)) (λ t. absurd t),
+          );
     }
 
 -- ---- the end of a send
@@ -181,38 +231,38 @@ ended-incomplete z h (arrival.Complete n) = refl
 ended-incomplete z h (arrival.Replying n) = refl
 ended-incomplete z h (arrival.Replied n e) = refl
 
-ended-there : (z : End) (h : List ℕ) (s : IncomingStage) → wasDropped (record { header = h; stage = s }) (endedAt z s (record { header = h; stage = s })) ≡ false
-unfolding wasDropped
-ended-there z h arrival.Free = refl
-ended-there z h (arrival.Open timer next n) = refl
-ended-there z h (arrival.Complete n) = refl
-ended-there z h (arrival.Replying n) = refl
-ended-there z h (arrival.Replied n e) = refl
+ended-there : (z : End) (h : List ℕ) (s : IncomingStage) → Dropped (record { header = h; stage = s }) (endedAt z s (record { header = h; stage = s })) → ⊥
+ended-there z h arrival.Free d = false≢true (d .was-open)
+ended-there z h (arrival.Open timer next n) d = false≢true (d .is-free)
+ended-there z h (arrival.Complete n) d = false≢true (d .was-open)
+ended-there z h (arrival.Replying n) d = false≢true (d .was-open)
+ended-there z h (arrival.Replied n e) d = false≢true (d .was-open)
 
 module _ (x : Exchange) (own-four : length (x .own) ≡ 4) (incoming-four : length (x .incoming) ≡ 4) where
-  reply-flags : (z : End) (p : ℕ) → Flagged x (endedReply x p (endedAt z (incomingPlace x p .stage) (incomingPlace x p)) .exchange) noFlags
+  reply-flags : (z : End) (p : ℕ) → Flagged x (endedReply x p (endedAt z (incomingPlace x p .stage) (incomingPlace x p)) .exchange) noneThrown noFlags
   unfolding endedReply putIncoming withSending
   reply-flags z p =
       let i = incomingPlace x p in
-      subst (λ m. Flagged x (endedReply x p (endedAt z (i .stage) i) .exchange) (record { verdicts = noMarks; completed = m; dropped = m })) (mark-none p)
-      (incoming-flagged x _ p (endedAt z (i .stage) i) false false incoming-four refl refl (sym (ended-incomplete z (i .header) (i .stage))) (λ e. absurd (false≢true (sym (ended-there z (i .header) (i .stage)) ∙ e))) (λ e. absurd (false≢true e)))
+      subst (λ m. Flagged x (endedReply x p (endedAt z (i .stage) i) .exchange) noneThrown (record { verdicts = noMarks; completed = m; dropped = m })) (mark-none p)
+      (incoming-flagged x _ noneThrown p (endedAt z (i .stage) i) false false incoming-four refl refl (sym (ended-incomplete z (i .header) (i .stage)))
+      (λ d. absurd (ended-there z (i .header) (i .stage) d)) (λ e. absurd (false≢true e)) (λ p k t. absurd t))
 
-  sent-flags : (q : Sending) → Flagged x (sentBy q x .exchange) (sentBy q x .flags)
+  sent-flags : (q : Sending) → Flagged x (sentBy q x .exchange) noneThrown (sentBy q x .flags)
   unfolding endedOwn endedReply putOwn withSending
-  sent-flags sending.Nothing = unflagged x x refl refl
-  sent-flags (sending.Primary p n) = own-flagged x _ p (ownSent (ownPlace x p)) own-four refl refl
+  sent-flags sending.Nothing = unflagged x x noneThrown refl refl (λ p k t. absurd t)
+  sent-flags (sending.Primary p n) = own-flagged x _ noneThrown p (ownSent (ownPlace x p)) own-four refl refl (λ p k t. absurd t)
   sent-flags (sending.Reply p f n) = reply-flags end.Sent p
 
-  failed-flags : (q : Sending) → Flagged x (failedBy q x .exchange) (failedBy q x .flags)
+  failed-flags : (q : Sending) → Flagged x (failedBy q x .exchange) noneThrown (failedBy q x .flags)
   unfolding endedOwn endedReply putOwn withSending
-  failed-flags sending.Nothing = unflagged x x refl refl
-  failed-flags (sending.Primary p n) = own-flagged x _ p (ownFailed (ownPlace x p)) own-four refl refl
+  failed-flags sending.Nothing = unflagged x x noneThrown refl refl (λ p k t. absurd t)
+  failed-flags (sending.Primary p n) = own-flagged x _ noneThrown p (ownFailed (ownPlace x p)) own-four refl refl (λ p k t. absurd t)
   failed-flags (sending.Reply p f n) = reply-flags end.Failed p
 
 pub flags-exactly : FlagsExactly
 flags-exactly c x own-four incoming-four =
     record {
-      judged = judged-flags c x own-four incoming-four;
+      judged = judged-flags c x (record { own = own-four; incoming = incoming-four });
       ticked = tick-flags c x;
       sent = sent-flags x own-four incoming-four (x .sending);
       failed = failed-flags x own-four incoming-four (x .sending);

@@ -97,7 +97,7 @@ not-false : (t : Bool) → not t ≡ false → t ≡ true
 not-false true e = refl
 not-false false e = absurd (false≢true (sym e))
 
-right-way : (c : Terms) (b : Header) → isMisrouted c b ≡ false → Routed c b
+pub right-way : (c : Terms) (b : Header) → isMisrouted c b ≡ false → Routed c b
 unfolding isMisrouted
 right-way c b e = routed c b .0 (not-false _ e)
 
@@ -311,7 +311,7 @@ incoming-watched-on c x room four p k s (free-incoming q) w = incoming-release c
 -- ---- any calls
 
 -- what holds of what the calls leave and of what is seen of them, if each call keeps it so
-watched : {S : Type 0} (c : Terms) (sees : Exchange → List ℕ → S → Call → S) (P : Exchange → S → Type 0)
+pub watched : {S : Type 0} (c : Terms) (sees : Exchange → List ℕ → S → Call → S) (P : Exchange → S → Type 0)
     → ((t : Track) (s : S) (k : Call) → GoodTrack t → P (t .exchange) s → P (next c t k .exchange) (sees (t .exchange) (t .room) s k))
     → (t : Track) (s : S) (ks : List Call) → GoodTrack t → P (t .exchange) s → P (track c t ks .exchange) (watch c sees t s ks)
 unfolding track watch

@@ -14,3 +14,4 @@ pub mod History
 pub mod Theorems
 pub mod Watching
 pub mod Assembly
+pub mod Numbers

@@ -1,15 +1,17 @@
 -- What is proved of the transactions over every list of calls from a fresh start (`specs/History.antt`). Each proof is in `proofs/`.
--- The rules of judging are in `specs/Rules.antt`, the refusals in `specs/Refusals.antt`.
+-- The rules of judging are in `specs/Rules.antt`, the refusals in `specs/Refusals.antt`, the transaction numbers in `specs/Numbers.antt`.
 use Prim.Native.Nat.{ℕ, _≤_, _<_}
 use mathlib.Core.Path.{_≡_}
 use mathlib.Core.Bool.{Bool, true, false, not, _&&_}
 use mathlib.Core.List.{List}
+use mathlib.Core.Logic.{_↔_, _⊎_}
 use lib.ListN.{length, getD}
+use Rattle.header.specs.Header.{headerOf}
 use Rattle.settings.specs.declared.terms.Terms.{Terms}
 use Rattle.room.specs.Room.{front}
 use Rattle.room.specs.declared.Message.{Message}
 use Rattle.room.specs.declared.Message.the-variants as message
-use Rattle.place.specs.Own.{ownKept}
+use Rattle.place.specs.Own.{ownHasVerdict, ownKept}
 use Rattle.place.specs.OwnTheorems.{Reached as OwnReached}
 use Rattle.place.specs.OwnHistory.{Track as OwnTrack}
 use Rattle.place.specs.IncomingTheorems.{Reached as IncomingReached}
@@ -21,10 +23,11 @@ use Rattle.place.specs.declared.own.OwnStage.{OwnStage}
 use Rattle.place.specs.declared.own.OwnStage.the-variants as stage
 use Rattle.place.specs.declared.own.Own.{Own}
 use Rattle.place.specs.declared.incoming.Incoming.{Incoming}
-use Rattle.exchange.specs.Exchange.{ownPlace, incomingPlace, gotVerdict}
-use Rattle.exchange.specs.Tick.{tickOf, wasDropped}
+use Rattle.exchange.specs.Exchange.{ownPlace, incomingPlace}
+use Rattle.exchange.specs.Tick.{tickOf}
 use Rattle.exchange.specs.Send.{sentOf, failedOf}
 use Rattle.exchange.specs.Judge.{judgeOf}
+use Rattle.exchange.specs.Rules.{LowestAt, AlikeAt, NewPrimary}
 use Rattle.exchange.specs.Range.{exchangeInRange}
 use Rattle.exchange.specs.History.{Call, Track, track, atStart}
 use Rattle.exchange.specs.declared.flags.Flags.{Flags}
@@ -114,24 +117,42 @@ PlacesInside = (c : Terms) (t : Track) → Reached c t → Inside c t
 abbrev pub flagAt : List Bool → ℕ → Bool
 flagAt flags p = getD flags p false
 
+-- an own place got its verdict now
+unfoldable pub becameGiven : Own → Own → Bool
+becameGiven before after = not (ownHasVerdict before) && ownHasVerdict after
+
 -- the message in a place became complete now
 unfoldable pub becameComplete : Incoming → Incoming → Bool
 becameComplete before after = not (incomingIsComplete before) && incomingIsComplete after
 
--- "flags for places that got a verdict, completed or were dropped": from what the places are before and after the call. (A place
--- whose open message a new primary throws out is flagged as dropped too: `PlaceTaken`, specs/Rules.antt.)
-pub record Flagged (before after : Exchange) (flags : Flags) : Type 0 where
-  pub verdicts : (p : ℕ) → p < 4 → flagAt (flags .verdicts) p ≡ gotVerdict (ownPlace before p) (ownPlace after p)
+-- an open message is gone: its place is free now
+pub record Dropped (before after : Incoming) : Type 0 where
+  pub was-open : incomingIsOpen before ≡ true
+  pub is-free : incomingIsFree after ≡ true
+
+-- 6: a new primary with these header bytes and this data "throws that one out and takes its place": the open message in place p
+pub record ThrowsOut (c : Terms) (x : Exchange) (h d : List ℕ) (p : ℕ) : Type 0 where
+  pub primary : NewPrimary c x h d
+  pub alike : LowestAt (AlikeAt x (headerOf h)) p
+
+-- in a tick, and where a send ends, there is no new primary
+abbrev pub noneThrown : ℕ → Type 0
+noneThrown p = ⊥
+
+-- "flags for places that got a verdict, completed or were dropped", each exactly then: from what the places are before and after the
+-- call. An open message was dropped if its place is free after the call; or if a new primary was put in its place, which `ThrownOut`
+-- tells, for the two may look alike.
+pub record Flagged (before after : Exchange) (ThrownOut : ℕ → Type 0) (flags : Flags) : Type 0 where
+  pub verdicts : (p : ℕ) → p < 4 → flagAt (flags .verdicts) p ≡ becameGiven (ownPlace before p) (ownPlace after p)
   pub completed : (p : ℕ) → p < 4 → flagAt (flags .completed) p ≡ becameComplete (incomingPlace before p) (incomingPlace after p)
-  pub dropped : (p : ℕ) → p < 4 → wasDropped (incomingPlace before p) (incomingPlace after p) ≡ true → flagAt (flags .dropped) p ≡ true
-  pub was-open : (p : ℕ) → p < 4 → flagAt (flags .dropped) p ≡ true → incomingIsOpen (incomingPlace before p) ≡ true
+  pub dropped : (p : ℕ) → p < 4 → (flagAt (flags .dropped) p ≡ true) ↔ (Dropped (incomingPlace before p) (incomingPlace after p) ⊎ ThrownOut p)
 
 -- of each call that answers flags
 pub record FlagsTell (c : Terms) (x : Exchange) : Type 0 where
-  pub judged : (h d room : List ℕ) → Flagged x (judgeOf c x h d room .answer .exchange) (judgeOf c x h d room .answer .flags)
-  pub ticked : Flagged x (tickOf c x .exchange) (tickOf c x .flags)
-  pub sent : Flagged x (sentOf x .exchange) (sentOf x .flags)
-  pub failed : Flagged x (failedOf x .exchange) (failedOf x .flags)
+  pub judged : (h d room : List ℕ) → Flagged x (judgeOf c x h d room .answer .exchange) (ThrowsOut c x h d) (judgeOf c x h d room .answer .flags)
+  pub ticked : Flagged x (tickOf c x .exchange) noneThrown (tickOf c x .flags)
+  pub sent : Flagged x (sentOf x .exchange) noneThrown (sentOf x .flags)
+  pub failed : Flagged x (failedOf x .exchange) noneThrown (failedOf x .flags)
 
 abbrev pub FlagsExactly : Type 0
 FlagsExactly = (c : Terms) (x : Exchange) → length (x .own) ≡ 4 → length (x .incoming) ≡ 4 → FlagsTell c x

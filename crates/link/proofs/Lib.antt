@@ -26,7 +26,8 @@ pub mod Starting
 pub mod Filling
 pub mod Writing
 -- The places: what a call of the transactions does to one, what the line tells in a call and what the call answers, a block that goes
--- up; how a call moves what is seen of a place; verdicts, messages, our replies; notes, strays, flags.
+-- up; how a call moves what is seen of a place; verdicts, messages, our replies; notes, strays, flags; the
+-- transaction numbers.
 pub mod Changing
 pub mod Underway
 pub mod Stepping
@@ -44,6 +45,7 @@ pub mod Ending
 pub mod Noting
 pub mod Straying
 pub mod Raising
+pub mod Numbering
 -- Two units on a line that loses nothing.
 pub mod Calling
 pub mod Hearing

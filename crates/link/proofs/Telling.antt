@@ -1,22 +1,19 @@
 -- The transactions inside the unit go through calls of the transactions. Assumes nothing.
 use Prim.Native.Nat.{ℕ}
-use mathlib.Core.Path.{_≡_, refl, sym, ap, _∙_}
+use mathlib.Core.Path.{_≡_, refl, sym}
 use mathlib.Core.List.{List, [], _∷_, _++_}
-use mathlib.Core.Logic.{_≢_}
-use native.Mathlib.Omega.{arith}
 use Rattle.line.specs.Line.{tickOf}
 use Rattle.line.specs.declared.step.Out.{Out}
 use Rattle.line.specs.declared.step.Out.the-variants as out
 use Rattle.line.specs.declared.step.Event.{Event}
 use Rattle.line.specs.declared.step.Event.the-variants as event
 use Rattle.exchange.specs.History as exchange
-use Rattle.exchange.specs.Request.{refusalNumber, askedNumber, openOf, replyOf, releaseOwn, releaseIncoming}
-use Rattle.exchange.proofs.Accepting.{refused-changes-nothing}
+use Rattle.exchange.specs.Request.{openOf, replyOf, releaseOwn, releaseIncoming}
+use Rattle.exchange.proofs.Accepting.{refused-number, refused-changes-nothing}
 use Rattle.exchange.specs.declared.exchange.Exchange.{Exchange}
 use Rattle.exchange.specs.declared.request.Asked.{Asked}
 use Rattle.exchange.specs.declared.request.Asked.the-variants as asked
 use Rattle.exchange.specs.declared.request.Refusal.{Refusal}
-use Rattle.exchange.specs.declared.request.Refusal.the-variants as refusal
 use Rattle.link.specs.State.{withLine}
 use Rattle.link.specs.Run.{Left, left, leaves, Midway, hasNext, told, hears, heardBy, tickTold, places, drainedTurn}
 use Rattle.link.specs.Call.{asksBy, freesBy}
@@ -24,19 +21,6 @@ use Rattle.link.specs.History.{Call, byte, tick, drained, primary, reply
 use Rattle.link.specs.Inside.{exchangeOf, ExchangeGoes}
 use Rattle.link.specs.declared.link.Link.{Link}
 use Rattle.link.proofs.Cases.{by-gate, by-own, by-incoming, by-sent}
-
--- 5 to 11
-no-zero : (r : Refusal) → refusalNumber r ≢ 0
-no-zero refusal.Message e = omega arith
-no-zero refusal.DataLong e = omega arith
-no-zero refusal.Sending e = omega arith
-no-zero refusal.NoPlace e = omega arith
-no-zero refusal.Place e = omega arith
-no-zero refusal.NotWanted e = omega arith
-no-zero refusal.Replied e = omega arith
-
-refused-number : (a : Asked) (r : Refusal) → a ≡ asked.Refused r → askedNumber a ≢ 0
-refused-number a r e z = no-zero r (sym (ap askedNumber e) ∙ z)
 
 module _ (u : Link) (room : List ℕ) (j : exchange.Joined) where
   -- these calls bring the transactions and the room where the unit's are

@@ -10,5 +10,6 @@ pub mod Door
 pub mod Refusals
 pub mod Verdicts
 pub mod Moves
+pub mod Numbers
 pub mod SameMessage
 pub mod Table

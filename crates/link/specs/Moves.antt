@@ -24,7 +24,7 @@ use Rattle.exchange.specs.Flags.{noFlags}
 use Rattle.exchange.specs.Request.{primaryHeader}
 use Rattle.exchange.specs.Refusals.{numberGiven, AsAsked}
 use Rattle.exchange.specs.Rules.{LowestAt, OfReply, OfMessage, ReplyHere, MessageHere, AlikeAt, FreeAt, AlikeHere, Ruled}
-use Rattle.exchange.specs.Theorems.{Flagged}
+use Rattle.exchange.specs.Theorems.{ThrowsOut as BlockThrowsOut, Flagged}
 use Rattle.exchange.specs.Watching.{sentFrom, acceptedAs, freedSeen}
 use Rattle.exchange.specs.declared.exchange.Exchange.{Exchange}
 use Rattle.exchange.specs.declared.reading.ReplyStage.{ReplyStage}
@@ -385,9 +385,19 @@ onTheLine (reply p f d) = false
 onTheLine (free-own p) = false
 onTheLine (free-incoming p) = false
 
--- "flags for places that got a verdict, completed or were dropped": from what the places are before and after the call
+-- 6: a new primary went up that "throws that one out and takes its place": the open message in incoming place p
+pub record ThrowsOut (t : Track) (m : Made) (p : ℕ) : Type 0 where
+  pub header : List ℕ
+  pub rest : List ℕ
+  pub up : GoesUp t m header rest
+  pub out : BlockThrowsOut (termsIn t) (t .link .exchange) header rest p
+
+-- "flags for places that got a verdict, completed or were dropped", each exactly then: from what the places are before and after the
+-- call, and which open message was thrown out
 pub record FlagsSay (t : Track) (m : Made) : Type 0 where
-  pub line : Accepted t m → onTheLine (m .call) ≡ true → Flagged (t .link .exchange) (next t m .link .exchange) (answered t m .answer .flags)
+  pub line :
+      Accepted t m → onTheLine (m .call) ≡ true
+      → Flagged (t .link .exchange) (next t m .link .exchange) (ThrowsOut t m) (answered t m .answer .flags)
   pub refused : Refused t m → answered t m .answer .flags ≡ noFlags
   pub request : onTheLine (m .call) ≡ false → answered t m .answer .flags ≡ noFlags
 

@@ -5,4 +5,5 @@ pub mod Scanning
 pub mod Commanding
 pub mod Printing
 pub mod PrintedRules
+pub mod ReadingRules
 pub mod Determined

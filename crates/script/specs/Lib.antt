@@ -4,3 +4,4 @@ pub mod Hex
 pub mod Command
 pub mod Printed
 pub mod PrintedRules
+pub mod ReadingRules

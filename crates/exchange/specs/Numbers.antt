@@ -1,0 +1,151 @@
+-- The two transaction numbers that the state keeps, "the last given" and "that of the latest own transaction to get a verdict" (01,
+-- "Messages"), over every list of calls from a fresh start. An onlooker keeps them too: by what is called and answered, and by what a
+-- user reads of the own places before and after each call (`specs/Reading.antt`). Each proof is in `proofs/Numbering.antt`.
+use Prim.Native.Nat.{ℕ, _%_, _≤_, _<_}
+use mathlib.Core.Path.{_≡_}
+use mathlib.Core.Bool.{Bool, true, false, cond, not, _&&_}
+use mathlib.Core.List.{List}
+use mathlib.Core.Logic.{_≢_}
+use lib.ListN.{length}
+use Rattle.settings.specs.declared.terms.Terms.{Terms}
+use Rattle.place.specs.declared.verdict.Verdict.{Verdict}
+use Rattle.place.specs.declared.verdict.Verdict.the-variants.{Sent, Answered, Declined, Other, Broken, NoReply, SendFailed}
+use Rattle.place.specs.declared.verdict.Standing.the-variants.{Free, Open, Given}
+use Rattle.exchange.specs.Reading.{ownReading}
+use Rattle.exchange.specs.Request.{openOf}
+use Rattle.exchange.specs.Rules.{Fours}
+use Rattle.exchange.specs.History.{Call, block, tick, acknowledged, failed, primary, reply, free-own, free-incoming, called, track, atStart}
+use Rattle.exchange.specs.Watching.{watch}
+use Rattle.exchange.specs.declared.exchange.Exchange.{Exchange}
+use Rattle.exchange.specs.declared.reading.OwnReading.{OwnReading}
+use Rattle.exchange.specs.declared.reading.OwnReading.the-variants.{NoPlace, Place}
+use Rattle.exchange.specs.declared.request.Asked.{Asked}
+use Rattle.exchange.specs.declared.request.Asked.the-variants.{Taken, Refused}
+use Rattle.exchange.specs.declared.request.Primary.{Primary}
+
+-- ---- what is read of an own place
+
+-- "System bytes: the caller's 16-bit source ID, then the number."
+abbrev pub numberShown : OwnReading → ℕ
+numberShown NoPlace = 0
+numberShown (Place h s r) = h .system % 65536
+
+-- it shows a verdict of this kind
+abbrev pub shows : (Verdict → Bool) → OwnReading → Bool
+shows kind NoPlace = false
+shows kind (Place h Free r) = false
+shows kind (Place h Open r) = false
+shows kind (Place h (Given v) r) = kind v
+
+abbrev pub anyVerdict : Verdict → Bool
+anyVerdict v = true
+
+-- 1 and 7 are given where the sending of a primary ends: the line tells of it. The others are given where a block of the reply is
+-- judged, or where T3 or T4 runs out.
+abbrev pub byLine : Verdict → Bool
+byLine Sent = true
+byLine Answered = false
+byLine Declined = false
+byLine Other = false
+byLine Broken = false
+byLine NoReply = false
+byLine SendFailed = true
+
+abbrev pub byPlace : Verdict → Bool
+byPlace v = not (byLine v)
+
+-- it got one in this call: it shows it now, and showed no verdict before
+unfoldable pub gets : (Verdict → Bool) → OwnReading → OwnReading → Bool
+gets kind before after = not (shows anyVerdict before) && shows kind after
+
+-- ---- what the onlooker keeps
+
+-- the number of the last primary that was accepted, and that of the latest own transaction to get a verdict
+pub record NumbersSeen : Type 0 where
+  pub last : ℕ
+  pub latest : ℕ
+
+-- from what is read of places 0 to 3 before and after a call: of several that got such a verdict the highest is the latest; if none
+-- did, the latest is as it was, and so it stays after its release
+unfoldable pub highest : (Verdict → Bool) → (ℕ → OwnReading) → (ℕ → OwnReading) → ℕ → ℕ
+highest kind before after latest =
+    cond (gets kind (before 3) (after 3)) (numberShown (after 3))
+    (cond (gets kind (before 2) (after 2)) (numberShown (after 2))
+    (cond (gets kind (before 1) (after 1)) (numberShown (after 1))
+    (cond (gets kind (before 0) (after 0)) (numberShown (after 0))
+    latest)))
+
+-- "On a tick the line goes first, then own places 0 to 3"
+abbrev pub latestSeen : (ℕ → OwnReading) → (ℕ → OwnReading) → ℕ → ℕ
+latestSeen before after latest = highest byPlace before after (highest byLine before after latest)
+
+-- a primary that was accepted shows its number; one that was refused uses none up
+abbrev pub lastBy : Asked → (ℕ → OwnReading) → ℕ → ℕ
+lastBy (Taken p) after last = numberShown (after p)
+lastBy (Refused r) after last = last
+
+abbrev pub lastSeen : Terms → Exchange → List ℕ → ℕ → Call → ℕ
+lastSeen c x room last (block h d) = last
+lastSeen c x room last tick = last
+lastSeen c x room last acknowledged = last
+lastSeen c x room last failed = last
+lastSeen c x room last (primary q d) = lastBy (openOf c x q d room .answer .asked) (ownReading (openOf c x q d room .answer .exchange)) last
+lastSeen c x room last (reply p f d) = last
+lastSeen c x room last (free-own p) = last
+lastSeen c x room last (free-incoming p) = last
+
+abbrev pub numbersSees : Terms → Exchange → List ℕ → NumbersSeen → Call → NumbersSeen
+numbersSees c x room s k = record {
+  last = lastSeen c x room (s .last) k;
+  latest = latestSeen (ownReading x) (ownReading (called c x room k .exchange)) (s .latest);
+}
+
+-- the last one that the start is told of; 0, which is no number, before the first verdict
+abbrev pub numbersAtStart : ℕ → NumbersSeen
+numbersAtStart last = record { last = last; latest = 0 }
+
+abbrev pub numbersWatch : Terms → ℕ → List ℕ → List Call → NumbersSeen
+numbersWatch c last room ks = watch c (numbersSees c) (atStart last room) (numbersAtStart last) ks
+
+-- ---- what the state keeps
+
+-- the state's numbers are these
+pub record NumbersAre (x : Exchange) (s : NumbersSeen) : Type 0 where
+  pub last : x .numbers .last ≡ s .last
+  pub latest : x .numbers .latest ≡ s .latest
+  -- "0 to 65535"
+  pub fits : x .numbers .last ≤ 65535
+
+-- where they are those that the onlooker keeps, so they are after any call more
+abbrev pub NumbersKeptOn : Type 0
+NumbersKeptOn =
+    (c : Terms) (x : Exchange) (room : List ℕ) → Fours x → (s : NumbersSeen) (k : Call)
+    → NumbersAre x s → NumbersAre (called c x room k .exchange) (numbersSees c x room s k)
+
+-- so they are after any calls from a fresh start
+abbrev pub NumbersKept : Type 0
+NumbersKept =
+    (c : Terms) (last : ℕ) (room : List ℕ) → last ≤ 65535 → length room ≡ 36864 → (ks : List Call)
+    → NumbersAre (track c (atStart last room) ks .exchange) (numbersWatch c last room ks)
+
+-- ---- E4 6.8.1
+
+-- a place in use
+abbrev pub inUse : OwnReading → Bool
+inUse NoPlace = false
+inUse (Place h s r) = true
+
+-- "The system bytes of a primary message must be distinct from": where their lower half, the number, is, they are, whatever the source
+-- IDs. (The third distinction: docs/EXCEPTIONS.md.)
+pub record NumberNew (x : Exchange) (s : NumbersSeen) (number : ℕ) : Type 0 where
+  -- "those of all currently open transactions initiated from the same end": of every own place in use, one with a verdict too
+  pub from-open : (p : ℕ) → p < 4 → inUse (ownReading x p) ≡ true → number ≢ numberShown (ownReading x p)
+  -- "those of the most recently completed transaction", in its place or released
+  pub from-latest : number ≢ s .latest
+
+-- the number that an accepted primary shows is such a one
+abbrev pub NumberDistinct : Type 0
+NumberDistinct =
+    (c : Terms) (x : Exchange) → Fours x → (s : NumbersSeen) → NumbersAre x s → (q : Primary) (d room : List ℕ) (p : ℕ)
+    → openOf c x q d room .answer .asked ≡ Taken p
+    → NumberNew x s (numberShown (ownReading (openOf c x q d room .answer .exchange) p))

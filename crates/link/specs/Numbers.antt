@@ -1,0 +1,57 @@
+-- The transaction numbers over every list of the unit's calls from a start, refused ones among them (`specs/History.antt`): the state
+-- keeps "the last given" and "that of the latest own transaction to get a verdict" (01, "Messages"). The onlooker is that of
+-- exchange/specs/Numbers.antt, at the unit's door: it goes by what is called and answered, and by what a user reads of the own places
+-- before and after each call. Each proof is in `proofs/Numbering.antt`.
+use Prim.Native.Nat.{ℕ, _≤_}
+use mathlib.Core.List.{List, [], _∷_}
+use Rattle.exchange.specs.Numbers.{numberShown, NumbersSeen, latestSeen, numbersAtStart, NumbersAre, NumberNew}
+use Rattle.exchange.specs.declared.reading.OwnReading.{OwnReading}
+use Rattle.exchange.specs.declared.request.Primary.{Primary}
+use Rattle.link.specs.Reading.{ownOf}
+use Rattle.link.specs.History.{Call, byte, tick, drained, primary, reply, free-own, free-incoming, Made, Track, answered, next, atStart}
+use Rattle.link.specs.Inside.{Reached}
+use Rattle.link.specs.Moves.{Opens}
+use Rattle.link.specs.declared.answer.Outcome.{Outcome}
+use Rattle.link.specs.declared.answer.Outcome.the-variants.{Done, Taken, Refused}
+
+-- a primary that was accepted shows its number; no other call gives one
+abbrev pub lastBy : Outcome → (ℕ → OwnReading) → ℕ → ℕ
+lastBy Done after last = last
+lastBy (Taken p) after last = numberShown (after p)
+lastBy (Refused r) after last = last
+
+abbrev pub lastSeen : Call → Outcome → (ℕ → OwnReading) → ℕ → ℕ
+lastSeen (byte b fits) o after last = last
+lastSeen tick o after last = last
+lastSeen drained o after last = last
+lastSeen (primary q d) o after last = lastBy o after last
+lastSeen (reply p f d) o after last = last
+lastSeen (free-own p) o after last = last
+lastSeen (free-incoming p) o after last = last
+
+-- one call: "On a tick the line goes first, then own places 0 to 3", which `latestSeen` tells by the verdicts
+abbrev pub numbersSees : Track → NumbersSeen → Made → NumbersSeen
+numbersSees t s m = record {
+  last = lastSeen (m .call) (answered t m .answer .outcome) (ownOf (next t m .link)) (s .last);
+  latest = latestSeen (ownOf (t .link)) (ownOf (next t m .link)) (s .latest);
+}
+
+-- any calls
+unfoldable pub numbersWatch : Track → NumbersSeen → List Made → NumbersSeen
+numbersWatch t s [] = s
+numbersWatch t s (m ∷ ms) = numbersWatch (next t m) (numbersSees t s m) ms
+
+-- those from the start
+abbrev pub numbersSeen : (t : Track) → Reached t → NumbersSeen
+numbersSeen t w = numbersWatch (atStart (w .settings) (w .setup .last) (w .room)) (numbersAtStart (w .setup .last)) (w .calls)
+
+-- The numbers that the state keeps are the onlooker's. ("last transaction number | 0 to 65535", which the setting's type keeps to.)
+abbrev pub NumbersKept : Type 0
+NumbersKept = (t : Track) (w : Reached t) → w .setup .last ≤ 65535 → NumbersAre (t .link .exchange) (numbersSeen t w)
+
+-- So the number that an accepted primary shows is that of no own place in use, nor of the latest own transaction to get a verdict: the
+-- first two distinctions of E4 6.8.1.
+abbrev pub NumberDistinct : Type 0
+NumberDistinct =
+    (t : Track) (w : Reached t) → w .setup .last ≤ 65535 → (m : Made) (p : ℕ) (q : Primary) → Opens t m p q
+    → NumberNew (t .link .exchange) (numbersSeen t w) (numberShown (ownOf (next t m .link) p))
