@@ -1,4 +1,5 @@
--- The contract of each public function asks nothing and determines the result and every byte of the output. Assumes nothing.
+-- The contract of each public function asks nothing and determines the result and every byte of the memory that was lent to be written.
+-- Assumes nothing.
 use mathlib.Core.Path.{sym, _∙_}
 use denote.Ref.{now}
 use Rattle.wire.specs.Determined.{Determined}
