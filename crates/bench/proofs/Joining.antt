@@ -6,17 +6,17 @@ use native.Mathlib.Omega.{arith}
 use lib.ListN.{length, take, drop, getD, length-append, length-take, length-drop}
 use lib.Seq.{take-all, length-take-le, drop-cons, drop-drop, drop-length}
 use borrow.Rule.Slice.PartMut.{putMid}
+use Rattle.wire.specs.Lent.{Filled, filled, filledWith}
+use Rattle.wire.proofs.Lent.{within}
 use Rattle.link.specs.Run.{Left, left}
 use Rattle.link.specs.History.{Call, called}
-use Rattle.link.specs.declared.answer.Answer.{Answer}
-use Rattle.link.specs.declared.link.Link.{Link}
+use Rattle.link.specs.declared.Answer.{Answer}
+use Rattle.link.specs.declared.Link.{Link}
 use Rattle.link.proofs.Writing.{writes-only}
-use Rattle.script.specs.Printed.{Printing, printing, printedIn}
-use Rattle.script.proofs.Printing.{within}
-use Rattle.bench.specs.Run.{Running, running, joinedRan, joins, byteRun, tickRun, bytesRun, ticksRun}
-use Rattle.bench.specs.declared.run.Ran.{Ran}
-use Rattle.bench.specs.Answer.{done, doneBy, shownRan}
-use Rattle.bench.specs.declared.answer.Shown.{Shown}
+use Rattle.talk.specs.Run.{Running, running, joinedRan, joins, byteRun, tickRun, bytesRun, ticksRun}
+use Rattle.talk.specs.declared.Ran.{Ran}
+use Rattle.talk.specs.Answer.{done, doneBy, shownRan}
+use Rattle.talk.specs.declared.Shown.{Shown}
 
 -- what lies behind the first n bytes is lent, and comes back
 window : (out : List ℕ) (n : ℕ) → n ≤ length out → take (length out - n) (drop n out) ≡ drop n out
@@ -97,8 +97,8 @@ by-run room out r shown s p e = rw p (ap doneBy e)
 
 -- an answer that is put behind those that wait to be printed ends within the memory for them
 pub shown-within :
-    (line text after : List ℕ) (w n : ℕ) → w ≤ length text → printing n after ≡ printedIn line (take (length text - w) (drop w text)) → w + n ≤ length text
+    (line text after : List ℕ) (w n : ℕ) → w ≤ length text → filled n after ≡ filledWith line (take (length text - w) (drop w text)) → w + n ≤ length text
 shown-within line text after w n h e =
-    let count = ap (λ (p : Printing). p .count) e in
+    let count = ap (λ (f : Filled). f .count) e in
     let size : length (take (length text - w) (drop w text)) ≡ length text - w = simp (length-take, length-drop) (omega arith) in
     omega (arith, count, size, within line (take (length text - w) (drop w text)))

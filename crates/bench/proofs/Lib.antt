@@ -1,3 +1,2 @@
--- `Joining`: the calls of a line, one behind another. `Listing`: 01's listing.
+-- `Joining`: the calls of a line, one behind another.
 pub mod Joining
-pub mod Listing

@@ -2,10 +2,9 @@
 ghost use mathlib.Core.Path.{_≡_};
 ghost use Prim.Native.Nat.{_≤_};
 ghost use lib.ListN.{length, take};
-ghost use Rattle.bench.specs.Answer.{commandDone, done, earlyShown, lineDone, nothingStarted, shownRan, standingNumber, startShown, unreadShown, verdictBy};
+ghost use Rattle.talk.specs.Answer.{commandDone, done, earlyShown, lineDone, nothingStarted, shownRan, standingNumber, startShown, unreadShown, verdictBy};
 ghost use Rattle.link.specs.Reading.{ownOf};
 use crate::run;
-use crate::run::Ran;
 use exchange::OwnReading;
 use link::Link;
 use link::Setup;
@@ -15,19 +14,9 @@ use script::Printed;
 use settings::Fifths;
 use settings::Seconds;
 use settings::Tenths;
-
-// The unit that lines are about, and whether there is one yet: a line "before the first start that was not refused, prints `?`".
-pub(crate) struct Bench {
-    pub started: bool,
-    pub link: Link,
-}
-
-// What a line came to: the unit that the next one is about, what is to be printed, and how many bytes went out.
-pub(crate) struct Shown {
-    pub bench: Bench,
-    pub printed: Printed,
-    pub count: usize,
-}
+use talk::Bench;
+use talk::Ran;
+use talk::Shown;
 
 // Before the first start. No call is made on this unit.
 pub(crate) fn nothing_started() -> Bench
@@ -44,7 +33,7 @@ pub(crate) fn nothing_started() -> Bench
         duplicates: 0,
         last: 0,
     };
-    let answer = Link::start(setup);
+    let answer = unit::start(setup);
     let link = answer.link;
     Bench {
         started: false,
@@ -77,9 +66,9 @@ fn unreadable(bench: Bench) -> Shown
 fn start(bench: Bench, setup: Setup) -> Shown
     ensures { λ r. ⌜ r ≡ startShown bench setup ⌝ }
 {
-    let answer = Link::start(setup);
+    let answer = unit::start(setup);
     let outcome = answer.outcome;
-    let number = outcome.number();
+    let number = unit::outcome_number(outcome);
     let printed = Printed::Answer { number, note: 20 };
     if number == 0 {
         let link = answer.link;
@@ -124,7 +113,7 @@ fn standing_number(standing: Standing) -> u8
     match standing {
         Standing::Free => 0,
         Standing::Open => 0,
-        Standing::Given(verdict) => verdict.number(),
+        Standing::Given(verdict) => life::verdict_number(verdict),
     }
 }
 
@@ -132,7 +121,7 @@ fn standing_number(standing: Standing) -> u8
 fn verdict(link: Link, place: u8) -> Printed
     ensures { λ r. ⌜ r ≡ verdictBy (ownOf link place) place ⌝ }
 {
-    match link.own(place as usize) {
+    match unit::own(link, place as usize) {
         OwnReading::NoPlace => Printed::Answer {
             number: 9,
             note: 20,
@@ -166,7 +155,7 @@ fn command(link: Link, command: Command, bytes: &[u8], room: &mut [u8], out: &mu
             setup,
         ),
         Command::Open { primary, length } => {
-            let answer = link.open(primary, first(bytes, length), room, out);
+            let answer = unit::open(link, primary, first(bytes, length), room, out);
             ran(run::joined(0, answer))
         }
         Command::Reply {
@@ -174,21 +163,28 @@ fn command(link: Link, command: Command, bytes: &[u8], room: &mut [u8], out: &mu
             function,
             length,
         } => {
-            let answer = link.reply(place as usize, function, first(bytes, length), room, out);
+            let answer = unit::reply(
+                link,
+                place as usize,
+                function,
+                first(bytes, length),
+                room,
+                out,
+            );
             ran(run::joined(0, answer))
         }
         Command::ReleaseOwn(place) => {
-            let answer = link.release_own(place as usize);
+            let answer = unit::release_own(link, place as usize);
             ran(run::joined(0, answer))
         }
         Command::ReleaseIncoming(place) => {
-            let answer = link.release_incoming(place as usize);
+            let answer = unit::release_incoming(link, place as usize);
             ran(run::joined(0, answer))
         }
         Command::Bytes(length) => ran(run::bytes(link, first(bytes, length), room, out)),
         Command::Ticks(count) => ran(run::ticks(link, count, room, out)),
         Command::Drained => {
-            let answer = link.drained(room, out);
+            let answer = unit::drained(link, room, out);
             ran(run::joined(0, answer))
         }
         Command::Verdict(place) => Shown {
@@ -233,7 +229,7 @@ pub(crate) fn line(bench: Bench, line: &[u8], room: &mut [u8], out: &mut [u8]) -
     ensures { λ r. ⌜ done r (now (room .exit)) (now (out .exit)) ≡ lineDone bench (now (line .entry)) (now (room .entry)) (now (out .entry)) ⌝ }
 {
     let mut bytes = [0u8; 512];
-    let read = script::read_line(line, &mut bytes);
+    let read = scribe::read_line(line, &mut bytes);
     if bench.started {
         let link = bench.link;
         return command(link, read, &bytes, room, out);

@@ -1,6 +1,7 @@
 // `bench`: reads lines on standard input and prints one line each (01, "Bench program and proved table").
 //
-// `script` reads a line as a command and prints the answer, `link` is the unit, `run` makes its calls. Here bytes are read and
+// `scribe` reads a line as a command and prints the answer, `unit` is the link unit, `run` makes its calls; what a line does is said in
+// crate `talk`. Here bytes are read and
 // written, in large pieces. What is to be printed leaves before the next piece is waited for, so that bench can be used by hand and
 // behind a pipe as well as on a file.
 mod answer;
@@ -8,11 +9,11 @@ mod run;
 
 ghost use Prim.Native.Nat.{_≤_};
 ghost use lib.ListN.{length};
-use answer::Bench;
 use answer::first;
 use libc::STDIN_FILENO;
 use libc::STDOUT_FILENO;
 use script::Printed;
+use talk::Bench;
 
 // What is carried from one line to the next: the unit, how many bytes are kept of a line whose end has not come, and how many wait to
 // be printed.
@@ -44,14 +45,14 @@ fn keep(line: &mut [u8], kept: usize, part: &[u8]) -> usize {
 // Puts an answer behind those that wait to be printed. Where it has no room those are printed first.
 fn show(printed: Printed, bytes: &[u8], text: &mut [u8], waiting: usize) -> usize {
     if text.len() < waiting {
-        return script::print_line(printed, bytes, text);
+        return scribe::print_line(printed, bytes, text);
     }
-    let count = script::print_line(printed, bytes, &mut text[waiting..]);
+    let count = scribe::print_line(printed, bytes, &mut text[waiting..]);
     if 0 < count {
         return waiting + count;
     }
     io::write_all(STDOUT_FILENO, first(text, waiting));
-    script::print_line(printed, bytes, text)
+    scribe::print_line(printed, bytes, text)
 }
 
 // Does what a whole line says, and puts the answer behind those that wait to be printed.

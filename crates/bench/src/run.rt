@@ -3,17 +3,10 @@
 ghost use mathlib.Core.Path.{_≡_};
 ghost use Prim.Native.Nat.{_≤_};
 ghost use lib.ListN.{length};
-ghost use Rattle.bench.specs.Run.{byteRun, bytesRun, joinedRan, nothingRan, running, tickRun, ticksRun};
+ghost use Rattle.talk.specs.Run.{byteRun, bytesRun, joinedRan, nothingRan, running, tickRun, ticksRun};
 use link::Answer;
 use link::Link;
-
-// What the calls of a line came to: the next unit, the last call's number and note, and how many bytes they put out.
-pub(crate) struct Ran {
-    pub link: Link,
-    pub number: u8,
-    pub note: u8,
-    pub count: usize,
-}
+use talk::Ran;
 
 // No call was made: "a zero count prints `0 - 20`".
 fn nothing(link: Link) -> Ran
@@ -37,8 +30,8 @@ pub(crate) fn joined(before: usize, answer: Answer) -> Ran
     let note = answer.note;
     Ran {
         link,
-        number: outcome.number(),
-        note: note.number(),
+        number: unit::outcome_number(outcome),
+        note: unit::note_number(note),
         count: before + answer.count,
     }
 }
@@ -49,7 +42,7 @@ fn byte(ran: Ran, b: u8, room: &mut [u8], out: &mut [u8]) -> Ran
 {
     let link = ran.link;
     let before = ran.count;
-    let answer = link.byte(b, room, &mut out[before..]);
+    let answer = unit::byte(link, b, room, &mut out[before..]);
     joined(before, answer)
 }
 
@@ -59,7 +52,7 @@ fn tick(ran: Ran, room: &mut [u8], out: &mut [u8]) -> Ran
 {
     let link = ran.link;
     let before = ran.count;
-    let answer = link.tick(room, &mut out[before..]);
+    let answer = unit::tick(link, room, &mut out[before..]);
     joined(before, answer)
 }
 

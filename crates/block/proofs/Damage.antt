@@ -14,8 +14,8 @@ use Rattle.wire.proofs.Choice.{either}
 use Rattle.wire.specs.Sum.{plainSum, checksumOf}
 use Rattle.block.specs.Block.{withSum}
 use Rattle.block.specs.Theorems.{OtherSum, OneSumBit, OneByte, flipped}
-use Rattle.block.specs.declared.refusal.Refusal.the-variants.{ChecksumDiffers}
-use Rattle.block.specs.declared.codec.Read.the-variants.{Refused}
+use Rattle.block.specs.declared.Refusal.the-variants.{ChecksumDiffers}
+use Rattle.block.specs.declared.Read.the-variants.{Refused}
 use Rattle.block.proofs.Frames.{frame-body, frame-sum, frame-good}
 use Rattle.wire.proofs.Sums.{sum-never-wraps}
 use Rattle.block.proofs.Reading.{by-reading}

@@ -14,9 +14,9 @@ use Rattle.header.specs.declared.header.Header.{Header}
 use Rattle.wire.specs.Sum.{checksumOf}
 use Rattle.block.specs.Block.{GoodLength, lengthGood, readNumber, sumsAgree, readSized, readOf}
 use Rattle.block.specs.Theorems.{GoodBlock, ReadRefuses}
-use Rattle.block.specs.declared.refusal.Refusal.the-variants.{BlockLength, ChecksumDiffers}
-use Rattle.block.specs.declared.codec.Read.{Read}
-use Rattle.block.specs.declared.codec.Read.the-variants.{Block, Refused}
+use Rattle.block.specs.declared.Refusal.the-variants.{BlockLength, ChecksumDiffers}
+use Rattle.block.specs.declared.Read.{Read}
+use Rattle.block.specs.declared.Read.the-variants.{Block, Refused}
 
 pub good-length : (n given : ℕ) → lengthGood n given ≡ true ↔ GoodLength n given
 unfolding lengthGood

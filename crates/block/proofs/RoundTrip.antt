@@ -12,8 +12,8 @@ use Rattle.header.proofs.Headers.{header-and-back}
 use Rattle.wire.specs.Sum.{checksumOf}
 use Rattle.block.specs.Block.{framed, blockOf, GoodLength, readOf, dataIn, writeOf}
 use Rattle.block.specs.Theorems.{GoodBlock, ReadOfWritten}
-use Rattle.block.specs.declared.codec.Read.{Read}
-use Rattle.block.specs.declared.codec.Read.the-variants.{Block}
+use Rattle.block.specs.declared.Read.{Read}
+use Rattle.block.specs.declared.Read.the-variants.{Block}
 use Rattle.block.proofs.Frames.{frame-body, frame-sum, frame-good}
 use Rattle.block.proofs.Reading.{reads-as}
 use Rattle.block.proofs.Writing.{taken-good, taken-writes}

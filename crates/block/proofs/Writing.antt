@@ -14,8 +14,8 @@ use Rattle.wire.specs.Lent.{onFront}
 use Rattle.wire.specs.Sum.{checksumOf}
 use Rattle.block.specs.Block.{framed, blockOf, outputShort, GoodLength, lengthGood, Writing, refusedWrite, takenWrite, writtenNumber, writeOf}
 use Rattle.block.specs.Theorems.{WriteRefuses, RefusedWritesNothing, WritesOnly, TakenWrites}
-use Rattle.block.specs.declared.refusal.Refusal.the-variants.{OutputShort, BlockLength}
-use Rattle.block.specs.declared.codec.Written.the-variants.{Bytes as Taken, Refused as NotWritten}
+use Rattle.block.specs.declared.Refusal.the-variants.{OutputShort, BlockLength}
+use Rattle.block.specs.declared.Written.the-variants.{Bytes as Taken, Refused as NotWritten}
 use Rattle.block.proofs.Frames.{frame-length}
 use Rattle.block.proofs.Reading.{good-length}
 use Rattle.wire.proofs.Choice.{judged}

@@ -11,12 +11,12 @@ use Rattle.wire.specs.Sum.{checksumOf}
 use Rattle.header.specs.Header.{headerBytes, headerOf}
 use Rattle.header.specs.declared.header.Header.{Header}
 use Rattle.block.specs.Refusal.{refusalNumber}
-use Rattle.block.specs.declared.refusal.Refusal.{Refusal}
-use Rattle.block.specs.declared.refusal.Refusal.the-variants.{OutputShort, BlockLength, ChecksumDiffers}
-use Rattle.block.specs.declared.codec.Read.{Read}
-use Rattle.block.specs.declared.codec.Read.the-variants.{Block, Refused}
-use Rattle.block.specs.declared.codec.Written.{Written}
-use Rattle.block.specs.declared.codec.Written.the-variants.{Bytes, Refused as NotWritten}
+use Rattle.block.specs.declared.Refusal.{Refusal}
+use Rattle.block.specs.declared.Refusal.the-variants.{OutputShort, BlockLength, ChecksumDiffers}
+use Rattle.block.specs.declared.Read.{Read}
+use Rattle.block.specs.declared.Read.the-variants.{Block, Refused}
+use Rattle.block.specs.declared.Written.{Written}
+use Rattle.block.specs.declared.Written.the-variants.{Bytes, Refused as NotWritten}
 
 -- N bytes on the line, between their length byte and a sum
 abbrev pub withSum : List ℕ → ℕ → List ℕ

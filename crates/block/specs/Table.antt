@@ -7,10 +7,10 @@ use Rattle.header.specs.Header.{headerOf}
 use Rattle.header.specs.Table.{primary, reply}
 use Rattle.wire.specs.Sum.{checksumOf}
 use Rattle.block.specs.Block.{blockOf, writeOf, readOf}
-use Rattle.block.specs.declared.refusal.Refusal.the-variants.{BlockLength}
-use Rattle.block.specs.declared.codec.Read.the-variants.{Block, Refused}
-use Rattle.block.specs.declared.codec.Written.{Written}
-use Rattle.block.specs.declared.codec.Written.the-variants.{Bytes as Taken, Refused as NotWritten}
+use Rattle.block.specs.declared.Refusal.the-variants.{BlockLength}
+use Rattle.block.specs.declared.Read.the-variants.{Block, Refused}
+use Rattle.block.specs.declared.Written.{Written}
+use Rattle.block.specs.declared.Written.the-variants.{Bytes as Taken, Refused as NotWritten}
 
 -- the answer to writing N bytes: the first header of 01's listing, and as many zeros as N leaves behind it
 abbrev pub written : ℕ → ℕ → Written

@@ -11,10 +11,10 @@ use Rattle.header.specs.Header.{InRange, headerOf}
 use Rattle.header.specs.declared.header.Header.{Header}
 use Rattle.wire.specs.Sum.{checksumOf}
 use Rattle.block.specs.Block.{withSum, blockOf, GoodLength, writtenNumber, writeOf, readNumber, readOf, dataIn}
-use Rattle.block.specs.declared.refusal.Refusal.{Refusal}
-use Rattle.block.specs.declared.refusal.Refusal.the-variants.{ChecksumDiffers}
-use Rattle.block.specs.declared.codec.Read.the-variants.{Block, Refused}
-use Rattle.block.specs.declared.codec.Written.the-variants.{Bytes as Taken, Refused as NotWritten}
+use Rattle.block.specs.declared.Refusal.{Refusal}
+use Rattle.block.specs.declared.Refusal.the-variants.{ChecksumDiffers}
+use Rattle.block.specs.declared.Read.the-variants.{Block, Refused}
+use Rattle.block.specs.declared.Written.the-variants.{Bytes as Taken, Refused as NotWritten}
 
 -- Writing: each number of 01's table exactly when its row says so and no earlier one does, 0 for a block that is taken, and
 -- 13 never ("reading only").

@@ -1,14 +1,27 @@
-// A block alone, written and read as it stands on the line (E4 5.6, 5.7). What it says is crate `header`, its checksum
-// crate `wire`, and the cutting of a message into blocks crate `cut`.
+// What a block alone is (E4 5.6, 5.7): what writing and reading one answer. What a header says is crate `header`, the checksum crate
+// `wire`, and the cutting of a message into blocks crate `cut`.
 //
-// Nothing here knows of the line or of transactions. No public function has a `requires`: each answers for every
-// input, and its `ensures` is an equation with a definition of `specs/`.
-mod codec;
-mod refusal;
+// The model: types here, definitions and statements in `specs/`, and the proofs about them. The functions are crate `codec`.
+use header::Header;
 
-pub use codec::Read;
-pub use codec::Written;
-pub use codec::block_data;
-pub use codec::read_block;
-pub use codec::write_block;
-pub use refusal::Refusal;
+// What a write answers: how many bytes went out, length byte and sum included.
+pub enum Written {
+    Bytes(usize),
+    Refused(Refusal),
+}
+
+// What a read answers: the header, and the block length N, header and data.
+pub enum Read {
+    Block { header: Header, length: usize },
+    Refused(Refusal),
+}
+
+// What a block alone is refused by (01, "Refusal numbers and notes").
+pub enum Refusal {
+    // 1: an output of less than 257 bytes.
+    OutputShort,
+    // 12: a block length outside 10 to 254, or not the bytes given.
+    BlockLength,
+    // 13: the checksum differs.
+    ChecksumDiffers,
+}

@@ -52,13 +52,13 @@ pub fn cut_block(header: Header, length: usize, k: usize) -> Cut
     if k == count {
         return Cut::Block {
             header: header.numbered(number, true),
-            start: start,
+            start,
             length: length - start,
         };
     }
     Cut::Block {
         header: header.numbered(number, false),
-        start: start,
+        start,
         length: BLOCK_DATA,
     }
 }

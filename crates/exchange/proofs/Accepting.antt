@@ -16,28 +16,28 @@ use Rattle.header.specs.declared.header.Header.{Header}
 use Rattle.settings.specs.declared.terms.Terms.{Terms}
 use Rattle.place.specs.Own.{primaryOf as ownPrimary, freshOwn, standingAt, givenBy, ownClaimed, releasedAt as ownReleasedAt, ownReleased, ownHasVerdict}
 use Rattle.place.specs.Incoming.{primaryOf as incomingPrimary, freshIncoming, completeAt, repliedAt, incomingIsReplied, incomingAnswered, releasedAt as incomingReleasedAt, incomingReleased}
-use Rattle.place.specs.declared.own.OwnStage.{OwnStage}
-use Rattle.place.specs.declared.own.OwnStage.the-variants as own
-use Rattle.place.specs.declared.own.Own.{Own}
-use Rattle.place.specs.declared.incoming.IncomingStage.{IncomingStage}
-use Rattle.place.specs.declared.incoming.IncomingStage.the-variants as incoming
-use Rattle.place.specs.declared.incoming.Incoming.{Incoming}
+use Rattle.place.specs.declared.OwnStage.{OwnStage}
+use Rattle.place.specs.declared.OwnStage.the-variants as own
+use Rattle.place.specs.declared.Own.{Own}
+use Rattle.place.specs.declared.IncomingStage.{IncomingStage}
+use Rattle.place.specs.declared.IncomingStage.the-variants as incoming
+use Rattle.place.specs.declared.Incoming.{Incoming}
 use Rattle.table.specs.Own.{freeOwn}
-use Rattle.table.specs.declared.find.Found.{Found}
-use Rattle.table.specs.declared.find.Found.the-variants.{At, Nowhere}
+use Rattle.table.specs.declared.Found.{Found}
+use Rattle.table.specs.declared.Found.the-variants.{At, Nowhere}
 use Rattle.exchange.specs.Exchange.{ownPlace, incomingPlace, gotVerdict, latestAfter, putOwn, putIncoming, withSending}
 use Rattle.exchange.specs.Send.{replyTo}
 use Rattle.exchange.specs.Request.{Asking, refusalNumber, askedNumber, refusedBy, refused, primaryHeader, badPrimary, badFunction, dataLong, isSending, notReady, claimedAt, openBy, openFree, openOf, replyAccepted, replyReady, replyOf, releaseOwn, releaseIncoming}
 use Rattle.exchange.specs.Rules.{Fours, LowestAt}
 use Rattle.exchange.specs.Refusals.{OwnFree, numbered, RefusedChangesNothing, numberGiven, AsAsked, Opened, AcceptedOpens, RepliesTo, Replied, AcceptedReplies, OwnReleased, IncomingReleased, AcceptedReleases}
-use Rattle.exchange.specs.declared.exchange.Exchange.{Exchange}
-use Rattle.exchange.specs.declared.request.Refusal.{Refusal}
-use Rattle.exchange.specs.declared.request.Refusal.the-variants as refusal
-use Rattle.exchange.specs.declared.request.Asked.{Asked}
-use Rattle.exchange.specs.declared.request.Asked.the-variants.{Taken, Refused}
-use Rattle.exchange.specs.declared.request.Primary.{Primary}
-use Rattle.exchange.specs.declared.request.Requested.{Requested}
-use Rattle.exchange.specs.declared.send.Outgoing.the-variants as outgoing
+use Rattle.exchange.specs.declared.Exchange.{Exchange}
+use Rattle.exchange.specs.declared.Refusal.{Refusal}
+use Rattle.exchange.specs.declared.Refusal.the-variants as refusal
+use Rattle.exchange.specs.declared.Asked.{Asked}
+use Rattle.exchange.specs.declared.Asked.the-variants.{Taken, Refused}
+use Rattle.exchange.specs.declared.Primary.{Primary}
+use Rattle.exchange.specs.declared.Requested.{Requested}
+use Rattle.exchange.specs.declared.Outgoing.the-variants as outgoing
 use Rattle.exchange.proofs.Refusing.{lowest-free}
 
 -- ---- what a request can come to

@@ -24,29 +24,29 @@ use Rattle.room.specs.declared.Message.the-variants as message
 use Rattle.place.specs.Message.{Routed}
 use Rattle.place.specs.Fate.{beginsReply, fateOf}
 use Rattle.place.specs.Own.{freshOwn, replyOf, replyHeader, ownHasVerdict, ownKept, awaits, continuesReply, ownTakes, verdictOf, repliedBy, replied, ownOffered}
-use Rattle.place.specs.declared.fate.Fate.the-variants.{Last, More}
-use Rattle.place.specs.declared.own.OwnStage.{OwnStage}
-use Rattle.place.specs.declared.own.OwnStage.the-variants.{Awaiting, Replying, Done}
-use Rattle.place.specs.declared.own.Own.{Own}
-use Rattle.place.specs.declared.verdict.Verdict.{Verdict}
-use Rattle.place.specs.declared.verdict.Verdict.the-variants.{Sent, Answered, Declined, Other, Broken, NoReply, SendFailed}
+use Rattle.place.specs.declared.Fate.the-variants.{Last, More}
+use Rattle.place.specs.declared.OwnStage.{OwnStage}
+use Rattle.place.specs.declared.OwnStage.the-variants.{Awaiting, Replying, Done}
+use Rattle.place.specs.declared.Own.{Own}
+use Rattle.place.specs.declared.Verdict.{Verdict}
+use Rattle.place.specs.declared.Verdict.the-variants.{Sent, Answered, Declined, Other, Broken, NoReply, SendFailed}
 use Rattle.place.proofs.Judging.{reply-exactly, continues-exactly}
 use Rattle.table.specs.Find.{firstFrom, firstOf}
 use Rattle.table.specs.Number.{numberOf}
 use Rattle.table.specs.Own.{withOwn, replyFor}
-use Rattle.table.specs.declared.find.Found.the-variants.{At, Nowhere}
+use Rattle.table.specs.declared.Found.the-variants.{At, Nowhere}
 use Rattle.exchange.specs.Flags.{noMarks, markAt, noFlags, verdictFlag}
 use Rattle.exchange.specs.Exchange.{gotVerdict, latestAfter, putOwn, savedNow}
 use Rattle.exchange.specs.Judge.{judging, isSaved, isDuplicate, repliedAs, replyBlock, judgeOf}
 use Rattle.exchange.specs.Reading.{ownReading}
 use Rattle.exchange.specs.Assembly.{headerIn, dataIn, Receiver, heard, receives, received, awaiting, awaitingReceiver, ReplyAssembled, IsReply, Earns, AssemblyOfReply, OurReplies}
-use Rattle.exchange.specs.declared.flags.Flags.{Flags}
-use Rattle.exchange.specs.declared.note.Note.the-variants.{Kept}
-use Rattle.exchange.specs.declared.exchange.Saved.{Saved}
-use Rattle.exchange.specs.declared.exchange.Exchange.{Exchange}
-use Rattle.exchange.specs.declared.judge.Judged.{Judged}
+use Rattle.exchange.specs.declared.Flags.{Flags}
+use Rattle.exchange.specs.declared.Note.the-variants.{Kept}
+use Rattle.exchange.specs.declared.Saved.{Saved}
+use Rattle.exchange.specs.declared.Exchange.{Exchange}
+use Rattle.exchange.specs.declared.Judged.{Judged}
 use Rattle.exchange.proofs.Repeated.{more, any-fresh}
-use Rattle.exchange.proofs.Judged.{not-saved, of-reply}
+use Rattle.exchange.proofs.Outcomes.{not-saved, of-reply}
 use Rattle.exchange.proofs.Blocks.{routed-at, said, differ, fate-at}
 use Rattle.exchange.proofs.Growing.{filling, kept-front}
 

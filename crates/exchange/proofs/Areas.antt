@@ -16,19 +16,19 @@ use Rattle.place.specs.Fate.{fateOf}
 use Rattle.place.specs.Own.{freshOwn, keptAt, ownHasVerdict, ownTick, ownClaimed}
 use Rattle.place.specs.Incoming.{freshIncoming, lengthAt, freeAt, openAt, incomingTick, begins, begunBy, incomingBegun, incomingAnswered}
 use Rattle.place.proofs.Messages.{by-fate}
-use Rattle.place.specs.declared.fate.Fate.{Fate}
-use Rattle.place.specs.declared.incoming.End.the-variants as end
-use Rattle.place.specs.declared.incoming.IncomingStage.{IncomingStage}
-use Rattle.place.specs.declared.incoming.IncomingStage.the-variants as arrival
-use Rattle.place.specs.declared.own.OwnStage.{OwnStage}
-use Rattle.place.specs.declared.own.OwnStage.the-variants as stage
-use Rattle.place.specs.declared.own.Own.{Own}
-use Rattle.place.specs.declared.incoming.Incoming.{Incoming}
+use Rattle.place.specs.declared.Fate.{Fate}
+use Rattle.place.specs.declared.End.the-variants as end
+use Rattle.place.specs.declared.IncomingStage.{IncomingStage}
+use Rattle.place.specs.declared.IncomingStage.the-variants as arrival
+use Rattle.place.specs.declared.OwnStage.{OwnStage}
+use Rattle.place.specs.declared.OwnStage.the-variants as stage
+use Rattle.place.specs.declared.Own.{Own}
+use Rattle.place.specs.declared.Incoming.{Incoming}
 use Rattle.table.specs.Own.{freeOwn}
 use Rattle.table.specs.Incoming.{openAlike, freeIncoming}
 use Rattle.table.specs.Number.{nextNumber}
 use Rattle.table.proofs.Finding.{reply-lowest, message-lowest, open-alike-lowest, free-incoming-lowest, free-own-lowest}
-use Rattle.table.specs.declared.find.Found.the-variants.{At}
+use Rattle.table.specs.declared.Found.the-variants.{At}
 use Rattle.exchange.specs.Exchange.{ownPlace, incomingPlace, putOwn, putIncoming, withSending, savedNow}
 use Rattle.exchange.specs.Tick.{tickOf}
 use Rattle.exchange.specs.Send.{endedOwn, endedReply, sentBy, failedBy}
@@ -41,30 +41,30 @@ use Rattle.exchange.proofs.Tables.{map-every}
 use Rattle.exchange.proofs.Filling.{Fills, spares-same, spares-kept, fills-first, fits-area}
 use Rattle.exchange.proofs.Holding.{OwnHolds, IncomingHolds, SendHolds, own-ticked, own-sent, own-failed, own-released, own-claimed, incoming-ticked, incoming-answered, incoming-ended, incoming-released}
 use Rattle.exchange.proofs.Joining.{Good, own-any, incoming-any, saved-good, put-own, put-sending, own-only, incoming-only, incoming-kept, offered-replied, offered-kept, reply-joined, message-joined, anew-here, anew-else}
-use Rattle.exchange.specs.declared.note.Note.{Note}
-use Rattle.exchange.specs.declared.exchange.Sending.{Sending}
-use Rattle.exchange.specs.declared.exchange.Sending.the-variants as sending
-use Rattle.exchange.specs.declared.exchange.Exchange.{Exchange}
-use Rattle.exchange.specs.declared.request.Primary.{Primary}
-use Rattle.exchange.specs.declared.request.Requested.{Requested}
+use Rattle.exchange.specs.declared.Note.{Note}
+use Rattle.exchange.specs.declared.Sending.{Sending}
+use Rattle.exchange.specs.declared.Sending.the-variants as sending
+use Rattle.exchange.specs.declared.Exchange.{Exchange}
+use Rattle.exchange.specs.declared.Primary.{Primary}
+use Rattle.exchange.specs.declared.Requested.{Requested}
 
 -- ---- a block
 
 -- a primary that begins in a free place, or instead of an open message
-begun-holds : (room : List ℕ) (p : ℕ) → length room ≡ 36864 → p < 4 → (h d : List ℕ) (i : Incoming) → spoiltBy (fateOf (headerOf h) 0 (length d)) ≡ false
-    → IncomingHolds (keptIn room (message.Incoming p) 0 d) p (begunBy i h (headerOf h .number) (fateOf (headerOf h) 0 (length d)) .stage) d
+begun-holds : (room : List ℕ) (p : ℕ) → length room ≡ 36864 → p < 4 → (h : Header) (d : List ℕ) (i : Incoming) → spoiltBy (fateOf h 0 (length d)) ≡ false
+    → IncomingHolds (keptIn room (message.Incoming p) 0 d) p (begunBy i h (h .number) (fateOf h 0 (length d)) .stage) d
 begun-holds room p w k h d i =
     let z : 0 + length d ≡ length d = omega arith in
-    by-fate (headerOf h) 0 (length d)
-    (λ (f : Fate). spoiltBy f ≡ false → IncomingHolds (keptIn room (message.Incoming p) 0 d) p (begunBy i h (headerOf h .number) f .stage) d)
+    by-fate h 0 (length d)
+    (λ (f : Fate). spoiltBy f ≡ false → IncomingHolds (keptIn room (message.Incoming p) 0 d) p (begunBy i h (h .number) f .stage) d)
     (λ l e. absurd (false≢true (sym e)))
     (λ l m e. absurd (false≢true (sym e)))
     (λ l m fits e. subst (λ n. Fills (keptIn room (message.Incoming p) 0 d) (message.Incoming p) n d) (sym z) (fills-first room (message.Incoming p) d w k (omega arith)))
     (λ l m fits some e. subst (λ n. Fills (keptIn room (message.Incoming p) 0 d) (message.Incoming p) n d) (sym z) (fills-first room (message.Incoming p) d w k (omega arith)))
 
 -- where a primary begins, no message is complete
-pub begun-at : (h d : List ℕ) (q : List ℕ) (s : IncomingStage) (P : Incoming → Type 0) → (freeAt s ≡ true) ⊎ (openAt s ≡ true)
-    → P (begunBy (record { header = q; stage = s }) h (headerOf h .number) (fateOf (headerOf h) 0 (length d)))
+pub begun-at : (h : Header) (d : List ℕ) (q : Header) (s : IncomingStage) (P : Incoming → Type 0) → (freeAt s ≡ true) ⊎ (openAt s ≡ true)
+    → P (begunBy (record { header = q; stage = s }) h (h .number) (fateOf h 0 (length d)))
     → P (incomingBegun (record { header = q; stage = s }) h (length d))
 unfolding begins
 begun-at h d q arrival.Free P e w = w
@@ -116,10 +116,10 @@ module _ (c : Terms) (x : Exchange) (h d room : List ℕ) (s : Joined) (g : Good
       (λ p gone f q r m o e u t.
       let w = taken-place x b p gone (g .incoming-four) t in
       rw (r, m, new-joined x b p gone s d t)
-      (begun-at h d (incomingPlace x p .header) (incomingPlace x p .stage)
+      (begun-at b d (incomingPlace x p .header) (incomingPlace x p .stage)
       (λ i. Good (putIncoming y p i) (keptIn room (message.Incoming p) 0 d) (record { replies = s .replies; messages = anew (s .messages) p d; outgoing = s .outgoing }))
       (w .1)
-      (incoming-kept y room s gy p 0 d d _ (begun-holds room p (g .whole) (w .0) h d (incomingPlace x p) (ap spoiltBy e ∙ u)))))
+      (incoming-kept y room s gy p 0 d d _ (begun-holds room p (g .whole) (w .0) b d (incomingPlace x p) (ap spoiltBy e ∙ u)))))
       (λ n t r m. outcast n t)
 
 -- ---- time, and the end of a send

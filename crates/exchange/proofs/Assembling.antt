@@ -22,39 +22,39 @@ use Rattle.place.specs.Message.{Routed}
 use Rattle.place.specs.Fate.{beginsPrimary, continuesOf, fateOf}
 use Rattle.place.specs.Own.{freshOwn}
 use Rattle.place.specs.Incoming.{freshIncoming, begunBy, begins, incomingBegun, continuesHere, keptBy, goesOn, incomingOffered}
-use Rattle.place.specs.declared.fate.Fate.{Fate}
-use Rattle.place.specs.declared.fate.Fate.the-variants.{Last, More}
-use Rattle.place.specs.declared.incoming.IncomingStage.{IncomingStage}
-use Rattle.place.specs.declared.incoming.IncomingStage.the-variants.{Open, Complete}
-use Rattle.place.specs.declared.incoming.Incoming.{Incoming}
+use Rattle.place.specs.declared.Fate.{Fate}
+use Rattle.place.specs.declared.Fate.the-variants.{Last, More}
+use Rattle.place.specs.declared.IncomingStage.{IncomingStage}
+use Rattle.place.specs.declared.IncomingStage.the-variants.{Open, Complete}
+use Rattle.place.specs.declared.Incoming.{Incoming}
 use Rattle.place.proofs.Judging.{primary-exactly, continues-exactly}
 use Rattle.table.specs.Find.{firstFrom, firstOf}
 use Rattle.table.specs.Own.{replyFor}
 use Rattle.table.specs.Incoming.{alike, freeIncoming, messageFor, openAlike}
-use Rattle.table.specs.declared.find.Found.the-variants.{At, Nowhere}
+use Rattle.table.specs.declared.Found.the-variants.{At, Nowhere}
 use Rattle.exchange.specs.Flags.{noFlags, incomingFlags}
 use Rattle.exchange.specs.Exchange.{freshExchange, putIncoming, savedNow}
 use Rattle.exchange.specs.Judge.{judging, isSaved, continuedAs, messageBlock, beginsAt, judgeOf}
 use Rattle.exchange.specs.Reading.{wanted, ownReading, incomingReading}
 use Rattle.exchange.specs.Assembly.{headerIn, dataIn, Receiver, freshReceiver, heard, receives, received, Assembled, AssemblyOfCut}
-use Rattle.exchange.specs.declared.note.Note.the-variants.{Kept}
-use Rattle.exchange.specs.declared.exchange.Sending.the-variants as sending
-use Rattle.exchange.specs.declared.exchange.Exchange.{Exchange}
-use Rattle.exchange.specs.declared.judge.Judged.{Judged}
-use Rattle.exchange.specs.declared.reading.IncomingReading.the-variants as incoming
+use Rattle.exchange.specs.declared.Note.the-variants.{Kept}
+use Rattle.exchange.specs.declared.Sending.the-variants as sending
+use Rattle.exchange.specs.declared.Exchange.{Exchange}
+use Rattle.exchange.specs.declared.Judged.{Judged}
+use Rattle.exchange.specs.declared.IncomingReading.the-variants as incoming
 use Rattle.exchange.proofs.Repeated.{more, any-fresh}
-use Rattle.exchange.proofs.Judged.{not-saved, of-message, of-primary}
+use Rattle.exchange.proofs.Outcomes.{not-saved, of-message, of-primary}
 use Rattle.exchange.proofs.Blocks.{same-header, number-at, routed-at, continues-at, said, differ, fate-at}
 use Rattle.exchange.proofs.Growing.{filling, kept-front}
 
 -- ---- the states between
 
--- a message whose first block had header bytes `first`
-abbrev message-at : List ℕ → IncomingStage → Incoming
+-- a message whose first block had header `first`
+abbrev message-at : Header → IncomingStage → Incoming
 message-at first s = record { header = first; stage = s }
 
--- it is in incoming place 0, and there is nothing else; b was the last header
-abbrev holding : ℕ → List ℕ → List ℕ → IncomingStage → Exchange
+-- it is in incoming place 0, and there is nothing else; b are the bytes of the last header
+abbrev holding : ℕ → Header → List ℕ → IncomingStage → Exchange
 holding last first b s = record {
   own = replicate 4 freshOwn;
   incoming = message-at first s ∷ replicate 3 freshIncoming;
@@ -74,18 +74,18 @@ answer-by t x = record { exchange = x; note = Kept; flags = incomingFlags 0 t fa
 -- ---- one block
 
 -- the first block of a primary in a fresh place
-begun-at : (b : List ℕ) (size n : ℕ) (t : Bool) → fateOf (headerOf b) 0 size ≡ cond t (Last n) (More n)
-    → incomingBegun freshIncoming b size ≡ message-at b (stage-by t (headerOf b .number) n)
+begun-at : (b : Header) (size n : ℕ) (t : Bool) → fateOf b 0 size ≡ cond t (Last n) (More n)
+    → incomingBegun freshIncoming b size ≡ message-at b (stage-by t (b .number) n)
 unfolding begins
-begun-at b size n t e = ap (begunBy freshIncoming b (headerOf b .number)) e ∙ by t
+begun-at b size n t e = ap (begunBy freshIncoming b (b .number)) e ∙ by t
   where
-    by : (t : Bool) → begunBy freshIncoming b (headerOf b .number) (cond t (Last n) (More n)) ≡ message-at b (stage-by t (headerOf b .number) n)
+    by : (t : Bool) → begunBy freshIncoming b (b .number) (cond t (Last n) (More n)) ≡ message-at b (stage-by t (b .number) n)
     by true = refl
     by false = refl
 
 -- a further block of an open message
-offered-at : (first : List ℕ) (g : Header) (next have size n : ℕ) (t : Bool)
-    → continuesOf (headerOf first) next g ≡ true → fateOf g have size ≡ cond t (Last n) (More n)
+offered-at : (first g : Header) (next have size n : ℕ) (t : Bool)
+    → continuesOf first next g ≡ true → fateOf g have size ≡ cond t (Last n) (More n)
     → incomingOffered (message-at first (Open 0 next have)) g size ≡ message-at first (stage-by t (g .number) n)
 unfolding incomingOffered goesOn continuesHere
 offered-at first g next have size n t takes e =
@@ -97,14 +97,14 @@ offered-at first g next have size n t takes e =
     by false = refl
 
 -- what it is answered with, and what becomes of its data
-continued-at : (x : Exchange) (first : List ℕ) (next have n : ℕ) (after : Incoming) (t : Bool) (d room : List ℕ)
+continued-at : (x : Exchange) (first : Header) (next have n : ℕ) (after : Incoming) (t : Bool) (d room : List ℕ)
     → continuedAs x 0 (message-at first (Open 0 next have)) after (cond t (Last n) (More n)) d room
     ≡ judging (answer-by t (putIncoming x 0 after)) (keptIn room (message.Incoming 0) have d)
 continued-at x first next have n after true d room = refl
 continued-at x first next have n after false d room = refl
 
 -- it is found to continue the message in place 0
-found-at : (first : List ℕ) (g : Header) (next have : ℕ) → continuesOf (headerOf first) next g ≡ true
+found-at : (first g : Header) (next have : ℕ) → continuesOf first next g ≡ true
     → messageFor (message-at first (Open 0 next have) ∷ replicate 3 freshIncoming) g ≡ At 0
 unfolding messageFor firstOf firstFrom continuesHere
 found-at first g next have takes = ap (λ (k : Bool). cond k (At 0) Nowhere) takes
@@ -129,7 +129,7 @@ module _ (c : Terms) (last : ℕ) (h : Header) (d : List ℕ) (i : InRange h) (q
 
   -- the transactions after block k
   after : ℕ → Bool → Exchange
-  after k t = holding last (headerIn h d 1) (headerIn h d k) (stage-by t k (length (joined h d k)))
+  after k t = holding last (headerOf (headerIn h d 1)) (headerIn h d k) (stage-by t k (length (joined h d k)))
 
   -- block 1 opens the message, or completes it at once
   first-judged : (t : Bool) (room : List ℕ) → 1 ≤ blockCount (length d) → eqb 1 (blockCount (length d)) ≡ t
@@ -143,7 +143,7 @@ module _ (c : Terms) (last : ℕ) (h : Header) (d : List ℕ) (i : InRange h) (q
       of-primary c (freshExchange last) b (dataIn h d 1) room (routed-at h d i short c 1 some q) (not-saved c (freshExchange last) b refl) 0 n t
       refl refl refl refl (begins-primary some) f
       ∙ ap (λ (o : Incoming). judging (answer-by t (putIncoming (savedNow (freshExchange last) b) 0 o)) (keptIn room (message.Incoming 0) 0 (dataIn h d 1)))
-      (begun-at b (length (dataIn h d 1)) n t f ∙ ap (λ (m : ℕ). message-at b (stage-by t m n)) (number 1 some))
+      (begun-at (headerOf b) (length (dataIn h d 1)) n t f ∙ ap (λ (m : ℕ). message-at (headerOf b) (stage-by t m n)) (number 1 some))
 
   -- block k + 1 continues it, or completes it
   further-judged : (k : ℕ) (t : Bool) (room : List ℕ) → 1 ≤ k → k < blockCount (length d) → eqb (suc k) (blockCount (length d)) ≡ t
@@ -151,7 +151,7 @@ module _ (c : Terms) (last : ℕ) (h : Header) (d : List ℕ) (i : InRange h) (q
       ≡ judging (answer-by t (after (suc k) t)) (keptIn room (message.Incoming 0) (length (joined h d k)) (dataIn h d (suc k)))
   unfolding after isSaved replyFor firstOf firstFrom messageBlock putIncoming savedNow
   further-judged k t room some less e =
-      let first : List ℕ = headerIn h d 1 in
+      let first : Header = headerOf (headerIn h d 1) in
       let b : List ℕ = headerIn h d (suc k) in
       let have : ℕ = length (joined h d k) in
       let size : ℕ = length (dataIn h d (suc k)) in

@@ -21,11 +21,11 @@ use Rattle.cut.proofs.Counts.{count-is-fewest}
 use Rattle.cut.proofs.Cutting.{joined-front}
 use Rattle.place.specs.Message.{Routed, Continues, LacksData}
 use Rattle.place.specs.Fate.{fateOf}
-use Rattle.place.specs.declared.fate.Fate.the-variants.{Last, More}
+use Rattle.place.specs.declared.Fate.the-variants.{Last, More}
 use Rattle.exchange.specs.Judge.{sameBytes}
 use Rattle.exchange.specs.Assembly.{headerIn, dataIn}
 use Rattle.exchange.proofs.Alike.{same-eq}
-use Rattle.exchange.proofs.Judged.{fate-kept}
+use Rattle.exchange.proofs.Outcomes.{fate-kept}
 
 -- the header of block k is the message's but for number and E
 pub same-header : (h : Header) (n k : ℕ) → SameElse (headerAt h n k) h

@@ -10,20 +10,20 @@ use Rattle.settings.specs.declared.terms.Terms.{Terms}
 use Rattle.wire.proofs.Choice.{chosen}
 use Rattle.place.specs.Fate.{beginsPrimary, fateOf}
 use Rattle.place.specs.Incoming.{primaryOf, incomingIsReplied}
-use Rattle.place.specs.declared.fate.Fate.{Fate}
-use Rattle.place.specs.declared.fate.Fate.the-variants as fate
+use Rattle.place.specs.declared.Fate.{Fate}
+use Rattle.place.specs.declared.Fate.the-variants as fate
 use Rattle.table.specs.Own.{freeOwn, replyFor}
 use Rattle.table.specs.Incoming.{freeIncoming, messageFor, openAlike}
-use Rattle.table.specs.declared.find.Found.{Found}
-use Rattle.table.specs.declared.find.Found.the-variants.{At, Nowhere}
+use Rattle.table.specs.declared.Found.{Found}
+use Rattle.table.specs.declared.Found.the-variants.{At, Nowhere}
 use Rattle.exchange.specs.Exchange.{incomingPlace, savedNow}
 use Rattle.exchange.specs.Judge.{Judging, thrown, isMisrouted, isDuplicate, lastBy, spoiltBy, replyBlock, messageBlock, beginsAt, inFree, inPlace, takesPlace, primaryBy, primaryBlock, orPrimary, ofMessage, noReplyBlock, ofReply, newBlock, judgeOf}
 use Rattle.exchange.specs.Request.{Asking, badPrimary, badFunction, dataLong, isSending, notReady, refused, openBy, openFree, openOf, replyAccepted, replyReady, replyOf}
-use Rattle.exchange.specs.declared.note.Note.{Note}
-use Rattle.exchange.specs.declared.note.Note.the-variants.{Misrouted, Duplicate, Stray, NoPlace, TooLong, Empty}
-use Rattle.exchange.specs.declared.exchange.Exchange.{Exchange}
-use Rattle.exchange.specs.declared.request.Refusal.{Refusal}
-use Rattle.exchange.specs.declared.request.Primary.{Primary}
+use Rattle.exchange.specs.declared.Note.{Note}
+use Rattle.exchange.specs.declared.Note.the-variants.{Misrouted, Duplicate, Stray, NoPlace, TooLong, Empty}
+use Rattle.exchange.specs.declared.Exchange.{Exchange}
+use Rattle.exchange.specs.declared.Refusal.{Refusal}
+use Rattle.exchange.specs.declared.Primary.{Primary}
 
 -- what was found
 pub by-found : (f : Found) (P : Found → Type 0) → ((p : ℕ) → f ≡ At p → P (At p)) → (f ≡ Nowhere → P Nowhere) → P f
@@ -42,6 +42,60 @@ abbrev pub Takes : Exchange → Header → ℕ → Bool → Type 0
 Takes x b p true = openAlike (x .incoming) b ≡ At p
 Takes x b p false = (openAlike (x .incoming) b ≡ Nowhere) × (freeIncoming (x .incoming) ≡ At p)
 
+-- ---- a block that passed 1 and 2, with header b and data d
+
+module _ (x : Exchange) (b : Header) (d room : List ℕ) (J : Judging → Type 0) where
+  abbrev pub AsReply : Type 0
+  AsReply = (p : ℕ) → replyFor (x .own) b ≡ At p → J (replyBlock x p b d room)
+
+  abbrev pub AsMessage : Type 0
+  AsMessage = (p : ℕ) → replyFor (x .own) b ≡ Nowhere → messageFor (x .incoming) b ≡ At p → J (messageBlock x p b d room)
+
+  -- the fate is that of a block that is kept
+  abbrev pub AsPrimary : Type 0
+  AsPrimary =
+      (p : ℕ) (gone : Bool) (f : Fate) → replyFor (x .own) b ≡ Nowhere → messageFor (x .incoming) b ≡ Nowhere → beginsPrimary b ≡ true
+      → fateOf b 0 (length d) ≡ f → spoiltBy f ≡ false → Takes x b p gone → J (beginsAt x p b gone (lastBy f) d room)
+
+  abbrev pub AsOutcast : Type 0
+  AsOutcast = (n : Note) → Thrown n → replyFor (x .own) b ≡ Nowhere → messageFor (x .incoming) b ≡ Nowhere → J (thrown x n room)
+
+  module _ (primary : AsPrimary) (outcast : AsOutcast) (r : replyFor (x .own) b ≡ Nowhere) (m : messageFor (x .incoming) b ≡ Nowhere) (o : beginsPrimary b ≡ true) where
+    placed : (f : Fate) → fateOf b 0 (length d) ≡ f → spoiltBy f ≡ false → J (takesPlace x b (lastBy f) d room)
+    unfolding takesPlace
+    placed f e s =
+        by-found (openAlike (x .incoming) b) (λ a. J (inPlace a x b (lastBy f) d room))
+        (λ p a. primary p true f r m o e s a)
+        (λ a.
+        by-found (freeIncoming (x .incoming)) (λ g. J (inFree g x b (lastBy f) d room))
+        (λ p g. primary p false f r m o e s (a, g)) (λ g. outcast NoPlace no-place r m))
+
+    by-fate : (f : Fate) → fateOf b 0 (length d) ≡ f → J (primaryBy f x b d room)
+    by-fate fate.Empty e = outcast Empty empty r m
+    by-fate fate.TooLong e = outcast TooLong too-long r m
+    by-fate (fate.Last n) e = placed (fate.Last n) e refl
+    by-fate (fate.More n) e = placed (fate.More n) e refl
+
+    begun : J (primaryBlock x b d room)
+    unfolding primaryBlock
+    begun = by-fate (fateOf b 0 (length d)) refl
+
+  module _ (reply : AsReply) (message : AsMessage) (primary : AsPrimary) (outcast : AsOutcast) where
+    no-reply : replyFor (x .own) b ≡ Nowhere → J (noReplyBlock x b d room)
+    unfolding noReplyBlock orPrimary
+    no-reply r =
+        by-found (messageFor (x .incoming) b) (λ f. J (ofMessage f x b d room))
+        (λ p m. message p r m)
+        (λ m.
+        chosen J (beginsPrimary b) _ _
+        (λ o. begun primary outcast r m o) (λ o. outcast Stray stray r m))
+
+    pub by-new : J (newBlock x b d room)
+    unfolding newBlock
+    by-new = by-found (replyFor (x .own) b) (λ f. J (ofReply f x b d room)) (λ p r. reply p r) no-reply
+
+-- ---- a block with header bytes h and data d
+
 module _ (c : Terms) (x : Exchange) (h d room : List ℕ) (J : Judging → Type 0) where
   abbrev pub OfReply : Type 0
   OfReply = (p : ℕ) → isMisrouted c (headerOf h) ≡ false → replyFor (x .own) (headerOf h) ≡ At p → J (replyBlock (savedNow x h) p (headerOf h) d room)
@@ -56,48 +110,24 @@ module _ (c : Terms) (x : Exchange) (h d room : List ℕ) (J : Judging → Type 
   OfPrimary =
       (p : ℕ) (gone : Bool) (f : Fate) → isMisrouted c (headerOf h) ≡ false → replyFor (x .own) (headerOf h) ≡ Nowhere
       → messageFor (x .incoming) (headerOf h) ≡ Nowhere → beginsPrimary (headerOf h) ≡ true → fateOf (headerOf h) 0 (length d) ≡ f
-      → spoiltBy f ≡ false → Takes x (headerOf h) p gone → J (beginsAt (savedNow x h) p h gone (lastBy f) d room)
+      → spoiltBy f ≡ false → Takes x (headerOf h) p gone → J (beginsAt (savedNow x h) p (headerOf h) gone (lastBy f) d room)
 
   abbrev pub Outcast : Type 0
   Outcast =
       (n : Note) → Thrown n → replyFor (x .own) (headerOf h) ≡ Nowhere → messageFor (x .incoming) (headerOf h) ≡ Nowhere
       → J (thrown (savedNow x h) n room)
 
-  module _ (primary : OfPrimary) (outcast : Outcast) (q : isMisrouted c (headerOf h) ≡ false) (r : replyFor (x .own) (headerOf h) ≡ Nowhere) (m : messageFor (x .incoming) (headerOf h) ≡ Nowhere) (o : beginsPrimary (headerOf h) ≡ true) where
-    placed : (f : Fate) → fateOf (headerOf h) 0 (length d) ≡ f → spoiltBy f ≡ false → J (takesPlace (savedNow x h) h (lastBy f) d room)
-    unfolding takesPlace savedNow
-    placed f e s =
-        by-found (openAlike (x .incoming) (headerOf h)) (λ a. J (inPlace a (savedNow x h) h (lastBy f) d room))
-        (λ p a. primary p true f q r m o e s a)
-        (λ a.
-        by-found (freeIncoming (x .incoming)) (λ g. J (inFree g (savedNow x h) h (lastBy f) d room))
-        (λ p g. primary p false f q r m o e s (a, g)) (λ g. outcast NoPlace no-place r m))
+  -- the saved header is no part of a place
+  takes-same : (b : Header) (p : ℕ) (gone : Bool) → Takes (savedNow x h) b p gone → Takes x b p gone
+  unfolding savedNow
+  takes-same b p true t = t
+  takes-same b p false t = t
 
-    by-fate : (f : Fate) → fateOf (headerOf h) 0 (length d) ≡ f → J (primaryBy f (savedNow x h) h d room)
-    by-fate fate.Empty e = outcast Empty empty r m
-    by-fate fate.TooLong e = outcast TooLong too-long r m
-    by-fate (fate.Last n) e = placed (fate.Last n) e refl
-    by-fate (fate.More n) e = placed (fate.More n) e refl
-
-    pub begun : J (primaryBlock (savedNow x h) h d room)
-    unfolding primaryBlock
-    begun = by-fate (fateOf (headerOf h) 0 (length d)) refl
-
-  module _ (reply : OfReply) (message : OfMessage) (primary : OfPrimary) (outcast : Outcast) (q : isMisrouted c (headerOf h) ≡ false) where
-    no-reply : replyFor (x .own) (headerOf h) ≡ Nowhere → J (noReplyBlock (savedNow x h) h d room)
-    unfolding noReplyBlock orPrimary savedNow
-    no-reply r =
-        by-found (messageFor (x .incoming) (headerOf h)) (λ f. J (ofMessage f (savedNow x h) h d room))
-        (λ p m. message p q r m)
-        (λ m.
-        chosen J (beginsPrimary (headerOf h)) _ _
-        (λ o. begun primary outcast q r m o) (λ o. outcast Stray stray r m))
-
-    pub new : J (newBlock (savedNow x h) h d room)
-    unfolding newBlock savedNow
-    new =
-        by-found (replyFor (x .own) (headerOf h)) (λ f. J (ofReply f (savedNow x h) h d room))
-        (λ p r. reply p q r) no-reply
+  new : OfReply → OfMessage → OfPrimary → Outcast → isMisrouted c (headerOf h) ≡ false → J (newBlock (savedNow x h) (headerOf h) d room)
+  unfolding savedNow
+  new reply message primary outcast q =
+      by-new (savedNow x h) (headerOf h) d room J (λ p r. reply p q r) (λ p r m. message p q r m)
+      (λ p gone f r m o e s t. primary p gone f q r m o e s (takes-same (headerOf h) p gone t)) outcast
 
   pub by-judge :
       (isMisrouted c (headerOf h) ≡ true → J (thrown x Misrouted room))

@@ -7,18 +7,19 @@ use mathlib.Core.Logic.{_↔_, _⊎_, ⊎-elim}
 use native.Mathlib.Omega.{arith}
 use lib.ListN.{length, getD, set, getD-replicate}
 use lib.Seq.{getD-set-same, getD-set-other}
+use Rattle.header.specs.declared.header.Header.{Header}
 use Rattle.place.specs.Own.{freshOwn, ownHasVerdict}
 use Rattle.place.specs.Incoming.{freshIncoming, incomingIsComplete}
-use Rattle.place.specs.declared.incoming.IncomingStage.{IncomingStage}
-use Rattle.place.specs.declared.incoming.IncomingStage.the-variants as arrival
-use Rattle.place.specs.declared.own.Own.{Own}
-use Rattle.place.specs.declared.incoming.Incoming.{Incoming}
+use Rattle.place.specs.declared.IncomingStage.{IncomingStage}
+use Rattle.place.specs.declared.IncomingStage.the-variants as arrival
+use Rattle.place.specs.declared.Own.{Own}
+use Rattle.place.specs.declared.Incoming.{Incoming}
 use Rattle.exchange.specs.Flags.{noMarks, markAt, noFlags, verdictFlag, incomingFlags}
 use Rattle.exchange.specs.Exchange.{ownPlace, incomingPlace, gotVerdict}
 use Rattle.exchange.specs.Theorems.{flagAt, becameGiven, becameComplete, Dropped, Flagged}
 use Rattle.exchange.proofs.Tables.{set-every}
-use Rattle.exchange.specs.declared.flags.Flags.{Flags}
-use Rattle.exchange.specs.declared.exchange.Exchange.{Exchange}
+use Rattle.exchange.specs.declared.Flags.{Flags}
+use Rattle.exchange.specs.declared.Exchange.{Exchange}
 
 -- nothing is got by a place that stays as it is
 stays : (t : Bool) → not t && t ≡ false
@@ -34,7 +35,7 @@ unfolding becameComplete
 not-completed i = stays (incomingIsComplete i)
 
 -- no message is dropped in a place that stays as it is
-not-dropped : (h : List ℕ) (s : IncomingStage) → Dropped (record { header = h; stage = s }) (record { header = h; stage = s }) → ⊥
+not-dropped : (h : Header) (s : IncomingStage) → Dropped (record { header = h; stage = s }) (record { header = h; stage = s }) → ⊥
 not-dropped h arrival.Free d = false≢true (d .was-open)
 not-dropped h (arrival.Open timer next n) d = false≢true (d .is-free)
 not-dropped h (arrival.Complete n) d = false≢true (d .was-open)

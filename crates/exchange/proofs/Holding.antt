@@ -13,17 +13,17 @@ use Rattle.room.specs.declared.Message.{Message}
 use Rattle.room.specs.declared.Message.the-variants as message
 use Rattle.place.specs.Own.{ended, primaryOf, keptAt, standingAt, freeBy, awaitedBy, replyingBy, ownTick, awaitTick, replyTick, acknowledged, ownSent, ownFailed, ownClaimed, ownTakes, ownReleased}
 use Rattle.place.specs.Incoming.{lengthAt, incomingTick, openTick, openBy, endedAt, incomingAnswered, incomingReleased, incomingTakes}
-use Rattle.place.specs.declared.own.OwnStage.{OwnStage}
-use Rattle.place.specs.declared.own.OwnStage.the-variants as stage
-use Rattle.place.specs.declared.own.Own.{Own}
-use Rattle.place.specs.declared.incoming.End.{End}
-use Rattle.place.specs.declared.incoming.IncomingStage.{IncomingStage}
-use Rattle.place.specs.declared.incoming.IncomingStage.the-variants as arrival
-use Rattle.place.specs.declared.incoming.Incoming.{Incoming}
+use Rattle.place.specs.declared.OwnStage.{OwnStage}
+use Rattle.place.specs.declared.OwnStage.the-variants as stage
+use Rattle.place.specs.declared.Own.{Own}
+use Rattle.place.specs.declared.End.{End}
+use Rattle.place.specs.declared.IncomingStage.{IncomingStage}
+use Rattle.place.specs.declared.IncomingStage.the-variants as arrival
+use Rattle.place.specs.declared.Incoming.{Incoming}
 use Rattle.exchange.specs.Theorems.{byVerdict}
 use Rattle.exchange.proofs.Filling.{Fills, Spares, fills-none}
-use Rattle.exchange.specs.declared.exchange.Sending.{Sending}
-use Rattle.exchange.specs.declared.exchange.Sending.the-variants as sending
+use Rattle.exchange.specs.declared.Sending.{Sending}
+use Rattle.exchange.specs.declared.Sending.the-variants as sending
 
 -- ---- what is held at each stage
 
@@ -132,11 +132,11 @@ own-claimed room p h (stage.Done v r) new e = absurd (false≢true e)
 -- ---- events at an incoming place
 
 -- a place from its parts
-abbrev mkIn : List ℕ → IncomingStage → Incoming
+abbrev mkIn : Header → IncomingStage → Incoming
 mkIn h s = record { header = h; stage = s }
 
 module _ (room : List ℕ) (p : ℕ) (bs : List ℕ) where
-  pub incoming-ticked : (c : Terms) (h : List ℕ) (s : IncomingStage) → IncomingHolds room p s bs → IncomingHolds room p (incomingTick c (mkIn h s) .stage) bs
+  pub incoming-ticked : (c : Terms) (h : Header) (s : IncomingStage) → IncomingHolds room p s bs → IncomingHolds room p (incomingTick c (mkIn h s) .stage) bs
   unfolding openTick
   incoming-ticked c h arrival.Free w = tt
   incoming-ticked c h (arrival.Open timer next n) w =
@@ -145,21 +145,21 @@ module _ (room : List ℕ) (p : ℕ) (bs : List ℕ) where
   incoming-ticked c h (arrival.Replying n) w = w
   incoming-ticked c h (arrival.Replied n e) w = w
 
-  pub incoming-answered : (h : List ℕ) (s : IncomingStage) → IncomingHolds room p s bs → IncomingHolds room p (incomingAnswered (mkIn h s) .stage) bs
+  pub incoming-answered : (h : Header) (s : IncomingStage) → IncomingHolds room p s bs → IncomingHolds room p (incomingAnswered (mkIn h s) .stage) bs
   incoming-answered h arrival.Free w = tt
   incoming-answered h (arrival.Open timer next n) w = w
   incoming-answered h (arrival.Complete n) w = w
   incoming-answered h (arrival.Replying n) w = w
   incoming-answered h (arrival.Replied n e) w = w
 
-  pub incoming-ended : (z : End) (h : List ℕ) (s : IncomingStage) → IncomingHolds room p s bs → IncomingHolds room p (endedAt z s (mkIn h s) .stage) bs
+  pub incoming-ended : (z : End) (h : Header) (s : IncomingStage) → IncomingHolds room p s bs → IncomingHolds room p (endedAt z s (mkIn h s) .stage) bs
   incoming-ended z h arrival.Free w = tt
   incoming-ended z h (arrival.Open timer next n) w = w
   incoming-ended z h (arrival.Complete n) w = w
   incoming-ended z h (arrival.Replying n) w = w
   incoming-ended z h (arrival.Replied n e) w = w
 
-  pub incoming-released : (h : List ℕ) (s : IncomingStage) → IncomingHolds room p s bs → IncomingHolds room p (incomingReleased (mkIn h s) .stage) bs
+  pub incoming-released : (h : Header) (s : IncomingStage) → IncomingHolds room p s bs → IncomingHolds room p (incomingReleased (mkIn h s) .stage) bs
   incoming-released h arrival.Free w = tt
   incoming-released h (arrival.Open timer next n) w = w
   incoming-released h (arrival.Complete n) w = tt
@@ -167,7 +167,7 @@ module _ (room : List ℕ) (p : ℕ) (bs : List ℕ) where
   incoming-released h (arrival.Replied n e) w = tt
 
   -- what a place that takes a block has of its message
-  pub incoming-has : (b : Header) (h : List ℕ) (s : IncomingStage) → incomingTakes (mkIn h s) b ≡ true → IncomingHolds room p s bs
+  pub incoming-has : (b : Header) (h : Header) (s : IncomingStage) → incomingTakes (mkIn h s) b ≡ true → IncomingHolds room p s bs
       → Fills room (message.Incoming p) (lengthAt s) bs
   incoming-has b h arrival.Free t g = absurd (false≢true t)
   incoming-has b h (arrival.Open timer next n) t g = g

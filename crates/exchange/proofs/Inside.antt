@@ -14,8 +14,8 @@ use Rattle.place.specs.Incoming.{freshIncoming}
 use Rattle.place.proofs.OwnRanges.{own-reached-in-range}
 use Rattle.place.proofs.Completing.{incoming-reached-in-range}
 use Rattle.place.specs.Range.{ownInRange, incomingInRange}
-use Rattle.place.specs.declared.own.Own.{Own}
-use Rattle.place.specs.declared.incoming.Incoming.{Incoming}
+use Rattle.place.specs.declared.Own.{Own}
+use Rattle.place.specs.declared.Incoming.{Incoming}
 use Rattle.table.proofs.Finding.{free-own-lowest}
 use Rattle.exchange.specs.Exchange.{ownPlace, incomingPlace, putOwn, putIncoming, withSending}
 use Rattle.exchange.specs.Tick.{tickOf}
@@ -29,11 +29,11 @@ use Rattle.exchange.proofs.Filling.{fits-area}
 use Rattle.exchange.proofs.Leaving.{judge-leaves}
 use Rattle.exchange.proofs.Areas.{GoodTrack, one-call, fresh-good}
 use Rattle.exchange.proofs.Watching.{own-watched, incoming-watched}
-use Rattle.exchange.specs.declared.exchange.Sending.{Sending}
-use Rattle.exchange.specs.declared.exchange.Sending.the-variants as sending
-use Rattle.exchange.specs.declared.exchange.Exchange.{Exchange}
-use Rattle.exchange.specs.declared.request.Primary.{Primary}
-use Rattle.exchange.specs.declared.request.Requested.{Requested}
+use Rattle.exchange.specs.declared.Sending.{Sending}
+use Rattle.exchange.specs.declared.Sending.the-variants as sending
+use Rattle.exchange.specs.declared.Exchange.{Exchange}
+use Rattle.exchange.specs.declared.Primary.{Primary}
+use Rattle.exchange.specs.declared.Requested.{Requested}
 
 -- as the onlooker of each place tells
 pub places-inside : PlacesInside

@@ -16,9 +16,9 @@ use Rattle.place.specs.Own.{freshOwn, ended, ownKept, ownTakes, repliedBy, repl
 use Rattle.place.specs.Incoming.{freshIncoming, incomingLength, incomingTakes, keptBy, goesOn, incomingOffered}
 use Rattle.place.proofs.Messages.{by-fate}
 use Rattle.place.specs.Fate.{fateOf}
-use Rattle.place.specs.declared.fate.Fate.{Fate}
-use Rattle.place.specs.declared.own.Own.{Own}
-use Rattle.place.specs.declared.incoming.Incoming.{Incoming}
+use Rattle.place.specs.declared.Fate.{Fate}
+use Rattle.place.specs.declared.Own.{Own}
+use Rattle.place.specs.declared.Incoming.{Incoming}
 use Rattle.exchange.specs.Note.{noteBy}
 use Rattle.exchange.specs.Exchange.{ownPlace, incomingPlace, putOwn, putIncoming, withSending, savedNow}
 use Rattle.exchange.specs.Judge.{keepBy}
@@ -26,8 +26,8 @@ use Rattle.exchange.specs.History.{Joined, anew, ifKept}
 use Rattle.exchange.proofs.Tables.{set-every}
 use Rattle.exchange.proofs.Filling.{Spares, spares-same, spares-kept, fills-more}
 use Rattle.exchange.proofs.Holding.{OwnHolds, IncomingHolds, SendHolds, own-spared, incoming-spared, send-spared, own-has, incoming-has}
-use Rattle.exchange.specs.declared.exchange.Sending.{Sending}
-use Rattle.exchange.specs.declared.exchange.Exchange.{Exchange}
+use Rattle.exchange.specs.declared.Sending.{Sending}
+use Rattle.exchange.specs.declared.Exchange.{Exchange}
 
 pub record Good (x : Exchange) (room : List ℕ) (s : Joined) : Type 0 where
   pub whole : length room ≡ 36864

@@ -14,20 +14,20 @@ use Rattle.place.specs.Fate.{beginsPrimary, tooLong}
 use Rattle.place.specs.Own.{awaits, continuesReply, ownTakes, takesAt as ownTakesAt}
 use Rattle.place.specs.Incoming.{continuesHere, incomingTakes, takesAt as incomingTakesAt, freeAt}
 use Rattle.place.proofs.Judging.{primary-exactly, reply-exactly, continues-exactly}
-use Rattle.place.specs.declared.own.OwnStage.{OwnStage}
-use Rattle.place.specs.declared.own.OwnStage.the-variants as own
-use Rattle.place.specs.declared.own.Own.{Own}
-use Rattle.place.specs.declared.incoming.IncomingStage.{IncomingStage}
-use Rattle.place.specs.declared.incoming.IncomingStage.the-variants as incoming
-use Rattle.place.specs.declared.incoming.Incoming.{Incoming}
+use Rattle.place.specs.declared.OwnStage.{OwnStage}
+use Rattle.place.specs.declared.OwnStage.the-variants as own
+use Rattle.place.specs.declared.Own.{Own}
+use Rattle.place.specs.declared.IncomingStage.{IncomingStage}
+use Rattle.place.specs.declared.IncomingStage.the-variants as incoming
+use Rattle.place.specs.declared.Incoming.{Incoming}
 use Rattle.table.specs.Own.{replyFor}
 use Rattle.table.specs.Incoming.{freeIncoming, messageFor, openAlike}
 use Rattle.table.proofs.Finding.{reply-lowest, free-incoming-lowest, message-lowest, open-alike-lowest}
-use Rattle.table.specs.declared.find.Found.the-variants.{At, Nowhere}
+use Rattle.table.specs.declared.Found.the-variants.{At, Nowhere}
 use Rattle.exchange.specs.Exchange.{ownPlace, incomingPlace}
 use Rattle.exchange.specs.Judge.{isSaved, isDuplicate}
 use Rattle.exchange.specs.Rules.{Fours, Duplicate, OfReply, first, further, OfMessage, goes-on, Begins, ReplyHere, MessageHere, Expected, AlikeHere, AlikeAt, FreeHere, FreeAt, HasPlace, LowestAt}
-use Rattle.exchange.specs.declared.exchange.Exchange.{Exchange}
+use Rattle.exchange.specs.declared.Exchange.{Exchange}
 use Rattle.exchange.proofs.Alike.{same-refl, same-eq}
 use Rattle.exchange.proofs.Finding.{found, somewhere, lowest, nowhere}
 

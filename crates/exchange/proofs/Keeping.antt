@@ -14,17 +14,17 @@ use Rattle.place.specs.Fate.{beginsPrimary, fateOf}
 use Rattle.place.specs.Own.{ended, ownKept, ownHasVerdict, ownTakes, repliedBy, replied, ownOffered}
 use Rattle.place.specs.Incoming.{incomingLength, incomingTakes, keptBy, goesOn, incomingOffered}
 use Rattle.place.proofs.Messages.{by-fate}
-use Rattle.place.specs.declared.own.Own.{Own}
-use Rattle.place.specs.declared.incoming.Incoming.{Incoming}
+use Rattle.place.specs.declared.Own.{Own}
+use Rattle.place.specs.declared.Incoming.{Incoming}
 use Rattle.table.specs.Own.{replyFor}
 use Rattle.table.specs.Incoming.{messageFor}
-use Rattle.table.specs.declared.find.Found.{Found}
-use Rattle.table.specs.declared.find.Found.the-variants.{At, Nowhere}
+use Rattle.table.specs.declared.Found.{Found}
+use Rattle.table.specs.declared.Found.the-variants.{At, Nowhere}
 use Rattle.exchange.specs.Flags.{noMarks, markAt, noFlags, verdictFlag, incomingFlags}
 use Rattle.exchange.specs.Exchange.{ownPlace, incomingPlace, gotVerdict, savedNow}
 use Rattle.exchange.specs.Judge.{thrown, repliedAs, replyBlock, continuedAs, messageBlock, primaryBy, primaryBlock, orPrimary, ofMessage, noReplyBlock, ofReply, newBlock, judgeOf}
 use Rattle.exchange.specs.Rules.{OfReply, first, further, replyBytes, messageBytes, bytesBefore, BytesBefore, Untouched, Spoils, ReplyGoes, ReplyBlock, MessageGoes, MessageBlock, NoPlaceTaken}
-use Rattle.exchange.specs.declared.exchange.Exchange.{Exchange}
+use Rattle.exchange.specs.declared.Exchange.{Exchange}
 use Rattle.exchange.proofs.Judging as test
 use Rattle.exchange.proofs.Leaving.{passes}
 
@@ -136,7 +136,7 @@ reply-block c x h d room four new p w =
     judges : judgeOf c x h d room ≡ repliedAs (savedNow x h) p o (repliedBy o b (fateOf b have (length d))) (fateOf b have (length d)) d room
     judges =
         passes c x h d room new
-        ∙ ap (λ (f : Found). ofReply f (savedNow x h) h d room) found
+        ∙ ap (λ (f : Found). ofReply f (savedNow x h) (headerOf h) d room) found
         ∙ ap (λ (q : Own). repliedAs (savedNow x h) p o q (fateOf b have (length d)) d room) (held (ownTakes o b) _ o (test.reply-says o b .1 (w .so)))
 
 -- ---- the message in an incoming place
@@ -203,8 +203,8 @@ message-block c x h d room four new none p w =
     judges : judgeOf c x h d room ≡ continuedAs (savedNow x h) p i (keptBy i (b .number) (fateOf b have (length d))) (fateOf b have (length d)) d room
     judges =
         passes c x h d room new
-        ∙ ap (λ (f : Found). ofReply f (savedNow x h) h d room) no-reply
-        ∙ ap (λ (f : Found). ofMessage f (savedNow x h) h d room) found
+        ∙ ap (λ (f : Found). ofReply f (savedNow x h) (headerOf h) d room) no-reply
+        ∙ ap (λ (f : Found). ofMessage f (savedNow x h) (headerOf h) d room) found
         ∙ ap (λ (q : Incoming). continuedAs (savedNow x h) p i q (fateOf b have (length d)) d room) (held (incomingTakes i b) _ i (test.message-says i b .1 (w .so)))
 
 -- ---- a primary that is not open
@@ -213,17 +213,17 @@ pub no-place-taken : NoPlaceTaken
 unfolding newBlock noReplyBlock orPrimary primaryBlock thrown savedNow
 no-place-taken c x h d room four new none no-message s =
     subst (Untouched (savedNow x h) room) (sym judges)
-    (chosen (Untouched (savedNow x h) room) (beginsPrimary (headerOf h)) (primaryBlock (savedNow x h) h d room) _
+    (chosen (Untouched (savedNow x h) room) (beginsPrimary (headerOf h)) (primaryBlock (savedNow x h) (headerOf h) d room) _
     (λ e.
-    by-fate (headerOf h) 0 (length d) (λ f. Untouched (savedNow x h) room (primaryBy f (savedNow x h) h d room))
+    by-fate (headerOf h) 0 (length d) (λ f. Untouched (savedNow x h) room (primaryBy f (savedNow x h) (headerOf h) d room))
     (λ l. record { state = refl; flags = refl; bytes = refl })
     (λ a l. record { state = refl; flags = refl; bytes = refl })
     (λ has ends fits. absurd (unspoilt (headerOf h) 0 d has (λ l. omega arith) s))
     (λ has ends fits some. absurd (unspoilt (headerOf h) 0 d has (λ l. omega arith) s)))
     (λ e. record { state = refl; flags = refl; bytes = refl }))
   where
-    judges : judgeOf c x h d room ≡ orPrimary (savedNow x h) h d room
+    judges : judgeOf c x h d room ≡ orPrimary (savedNow x h) (headerOf h) d room
     judges =
         passes c x h d room new
-        ∙ ap (λ (f : Found). ofReply f (savedNow x h) h d room) (test.no-reply x four (headerOf h) none)
-        ∙ ap (λ (f : Found). ofMessage f (savedNow x h) h d room) (test.no-message x four (headerOf h) no-message)
+        ∙ ap (λ (f : Found). ofReply f (savedNow x h) (headerOf h) d room) (test.no-reply x four (headerOf h) none)
+        ∙ ap (λ (f : Found). ofMessage f (savedNow x h) (headerOf h) d room) (test.no-message x four (headerOf h) no-message)

@@ -8,6 +8,7 @@ use native.Mathlib.Nat.{zero-add}
 use native.Mathlib.Omega.{arith}
 use lib.ListN.{length}
 use Rattle.header.specs.Header.{headerOf}
+use Rattle.header.specs.declared.header.Header.{Header}
 use Rattle.settings.specs.declared.terms.Terms.{Terms}
 use Rattle.room.specs.Room.{keptIn}
 use Rattle.room.specs.declared.Message.{Message}
@@ -17,21 +18,21 @@ use Rattle.place.specs.Fate.{fateOf}
 use Rattle.place.specs.Own.{ownKept}
 use Rattle.place.specs.Incoming.{incomingLength, freeAt, openAt, begunBy, begins, begunAt}
 use Rattle.place.proofs.Messages.{by-fate}
-use Rattle.place.specs.declared.fate.Fate.{Fate}
-use Rattle.place.specs.declared.fate.Fate.the-variants as fate
-use Rattle.place.specs.declared.incoming.IncomingStage.{IncomingStage}
-use Rattle.place.specs.declared.incoming.IncomingStage.the-variants as incoming
-use Rattle.place.specs.declared.incoming.Incoming.{Incoming}
+use Rattle.place.specs.declared.Fate.{Fate}
+use Rattle.place.specs.declared.Fate.the-variants as fate
+use Rattle.place.specs.declared.IncomingStage.{IncomingStage}
+use Rattle.place.specs.declared.IncomingStage.the-variants as incoming
+use Rattle.place.specs.declared.Incoming.{Incoming}
 use Rattle.table.specs.Incoming.{freeIncoming, openAlike}
-use Rattle.table.specs.declared.find.Found.{Found}
+use Rattle.table.specs.declared.Found.{Found}
 use Rattle.exchange.specs.Note.{noteBy, noteNumber}
 use Rattle.exchange.specs.Flags.{incomingFlags}
 use Rattle.exchange.specs.Exchange.{ownPlace, incomingPlace, putOwn, putIncoming, savedNow}
 use Rattle.exchange.specs.Judge.{Judging, judging, thrown, isMisrouted, isDuplicate, keepBy, replyBlock, messageBlock, beginsAt, inFree, inPlace, takesPlace, primaryBy, primaryBlock, orPrimary, ofMessage, noReplyBlock, ofReply, newBlock, judgeOf}
 use Rattle.exchange.specs.Rules.{Fours, AlikeHere, FreeHere, New, noted, Leaves, JudgeLeaves, NewPrimary, begunWith, begunIn, PlaceTaken}
-use Rattle.exchange.specs.declared.note.Note.{Note}
-use Rattle.exchange.specs.declared.note.Note.the-variants.{Kept, Misrouted, Duplicate, Stray, NoPlace, TooLong, Empty}
-use Rattle.exchange.specs.declared.exchange.Exchange.{Exchange}
+use Rattle.exchange.specs.declared.Note.{Note}
+use Rattle.exchange.specs.declared.Note.the-variants.{Kept, Misrouted, Duplicate, Stray, NoPlace, TooLong, Empty}
+use Rattle.exchange.specs.declared.Exchange.{Exchange}
 use Rattle.exchange.proofs.Tests.{fails}
 use Rattle.exchange.proofs.Finding.{found}
 use Rattle.exchange.proofs.Cases.{Thrown, stray, no-place, too-long, empty, by-judge}
@@ -137,33 +138,33 @@ third : (r u : Bool) (j k m : Judging) → r ≡ true → u ≡ false → cond (
 third r u j k m a b = rw (a, b)
 
 -- a block that passed 1 and 2 is judged by the others
-pub passes : (c : Terms) (x : Exchange) (h d room : List ℕ) → New c x h → judgeOf c x h d room ≡ newBlock (savedNow x h) h d room
+pub passes : (c : Terms) (x : Exchange) (h d room : List ℕ) → New c x h → judgeOf c x h d room ≡ newBlock (savedNow x h) (headerOf h) d room
 unfolding judgeOf isMisrouted
 passes c x h d room new =
     third (test.isRouted c (headerOf h)) (isDuplicate c x h) _ _ _
     (test.routed c (headerOf h) .1 (new .routed)) (fails _ _ (test.duplicate c x h) (new .no-duplicate))
 
 -- it is judged by rule 6
-by-rule-6 : (c : Terms) (x : Exchange) (h d room : List ℕ) → Fours x → NewPrimary c x h d → judgeOf c x h d room ≡ takesPlace (savedNow x h) h (headerOf h .e) d room
+by-rule-6 : (c : Terms) (x : Exchange) (h d room : List ℕ) → Fours x → NewPrimary c x h d → judgeOf c x h d room ≡ takesPlace (savedNow x h) (headerOf h) (headerOf h .e) d room
 unfolding newBlock noReplyBlock orPrimary primaryBlock savedNow
 by-rule-6 c x h d room four new =
     passes c x h d room (new .new)
-    ∙ ap (λ (f : Found). ofReply f (savedNow x h) h d room) (test.no-reply x four (headerOf h) (new .no-reply))
-    ∙ ap (λ (f : Found). ofMessage f (savedNow x h) h d room) (test.no-message x four (headerOf h) (new .no-message))
-    ∙ ap (λ (t : Bool). cond t (primaryBlock (savedNow x h) h d room) (thrown (savedNow x h) Stray room)) (test.begins (headerOf h) .1 (new .begins))
-    ∙ by-fate (headerOf h) 0 (length d) (λ f. primaryBy f (savedNow x h) h d room ≡ takesPlace (savedNow x h) h (headerOf h .e) d room)
+    ∙ ap (λ (f : Found). ofReply f (savedNow x h) (headerOf h) d room) (test.no-reply x four (headerOf h) (new .no-reply))
+    ∙ ap (λ (f : Found). ofMessage f (savedNow x h) (headerOf h) d room) (test.no-message x four (headerOf h) (new .no-message))
+    ∙ ap (λ (t : Bool). cond t (primaryBlock (savedNow x h) (headerOf h) d room) (thrown (savedNow x h) Stray room)) (test.begins (headerOf h) .1 (new .begins))
+    ∙ by-fate (headerOf h) 0 (length d) (λ f. primaryBy f (savedNow x h) (headerOf h) d room ≡ takesPlace (savedNow x h) (headerOf h) (headerOf h .e) d room)
     (λ l. absurd (new .has-data l)) (λ a l. absurd (omega (arith, new .fits))) (λ a e l. rw e) (λ a e l s. rw e)
 
 -- what the place is then
-begun-by : (i : Incoming) (h : List ℕ) (n : ℕ) → (LacksData (headerOf h) n → ⊥) → n ≤ 4096 → begins i h n ≡ begunWith h n
+begun-by : (i : Incoming) (h : Header) (n : ℕ) → (LacksData h n → ⊥) → n ≤ 4096 → begins i h n ≡ begunWith h n
 unfolding begins
 begun-by i h n has fits =
-    by-fate (headerOf h) 0 n (λ f. begunBy i h (headerOf h .number) f ≡ begunWith h n)
+    by-fate h 0 n (λ f. begunBy i h (h .number) f ≡ begunWith h n)
     (λ l. absurd (has l)) (λ a l. absurd (omega arith)) (λ a e l. rw (e, zero-add n)) (λ a e l s. rw (e, zero-add n))
 
 begun-there :
-    (s : IncomingStage) (i : Incoming) (h : List ℕ) (n : ℕ) → (openAt s || freeAt s ≡ true)
-    → (LacksData (headerOf h) n → ⊥) → n ≤ 4096 → begunAt s i h n ≡ begunWith h n
+    (s : IncomingStage) (i : Incoming) (h : Header) (n : ℕ) → (openAt s || freeAt s ≡ true)
+    → (LacksData h n → ⊥) → n ≤ 4096 → begunAt s i h n ≡ begunWith h n
 begun-there incoming.Free i h n t has fits = begun-by i h n has fits
 begun-there (incoming.Open timer next m) i h n t has fits = begun-by i h n has fits
 begun-there (incoming.Complete m) i h n t has fits = absurd (false≢true t)
@@ -173,11 +174,11 @@ begun-there (incoming.Replied m e) i h n t has fits = absurd (false≢true t)
 -- all that is left
 begins-there :
     (c : Terms) (x : Exchange) (h d room : List ℕ) (p : ℕ) (gone : Bool) → NewPrimary c x h d → (openAt (incomingPlace x p .stage) || freeAt (incomingPlace x p .stage) ≡ true)
-    → beginsAt (savedNow x h) p h gone (headerOf h .e) d room ≡ begunIn x p h gone d room
+    → beginsAt (savedNow x h) p (headerOf h) gone (headerOf h .e) d room ≡ begunIn x p h gone d room
 unfolding beginsAt savedNow
 begins-there c x h d room p gone new t =
     ap (λ (i : Incoming). judging (record { exchange = putIncoming (savedNow x h) p i; note = Kept; flags = incomingFlags p (headerOf h .e) gone }) (keptIn room (message.Incoming p) 0 d))
-    (begun-there (incomingPlace x p .stage) (incomingPlace x p) h (length d) t (new .has-data) (new .fits))
+    (begun-there (incomingPlace x p .stage) (incomingPlace x p) (headerOf h) (length d) t (new .has-data) (new .fits))
 
 -- note 25 where there is neither
 neither : (t : Bool) (A B : Type 0) → (t ≡ true ↔ (A ⊎ B)) → (placeNote t ≡ 25) ↔ ((A → ⊥) × (B → ⊥))
@@ -189,21 +190,21 @@ unfolding takesPlace savedNow
 place-taken c x h d room four new = record {
   alike = λ p w.
       judges
-      ∙ ap (λ (f : Found). inPlace f (savedNow x h) h (headerOf h .e) d room) (test.lowest-alike x four (headerOf h) p w)
+      ∙ ap (λ (f : Found). inPlace f (savedNow x h) (headerOf h) (headerOf h .e) d room) (test.lowest-alike x four (headerOf h) p w)
       ∙ begins-there c x h d room p true new (rw (w .so .0));
   free = λ none p w.
       judges
-      ∙ ap (λ (f : Found). inPlace f (savedNow x h) h (headerOf h .e) d room) (test.no-alike x four (headerOf h) none)
-      ∙ ap (λ (f : Found). inFree f (savedNow x h) h (headerOf h .e) d room) (test.lowest-free x four (headerOf h) p w)
+      ∙ ap (λ (f : Found). inPlace f (savedNow x h) (headerOf h) (headerOf h .e) d room) (test.no-alike x four (headerOf h) none)
+      ∙ ap (λ (f : Found). inFree f (savedNow x h) (headerOf h) (headerOf h .e) d room) (test.lowest-free x four (headerOf h) p w)
       ∙ begins-there c x h d room p false new (rw (w .so));
   all-in-use = (λ e. in-use .0 (sym note ∙ e), λ w. note ∙ in-use .1 w);
 }
   where
-    judges : judgeOf c x h d room ≡ takesPlace (savedNow x h) h (headerOf h .e) d room
+    judges : judgeOf c x h d room ≡ takesPlace (savedNow x h) (headerOf h) (headerOf h .e) d room
     judges = by-rule-6 c x h d room four new
 
     note : noted (judgeOf c x h d room) ≡ placeNote (found (openAlike (x .incoming) (headerOf h)) || found (freeIncoming (x .incoming)))
-    note = ap noted judges ∙ takes-note (savedNow x h) h d room (headerOf h .e)
+    note = ap noted judges ∙ takes-note (savedNow x h) (headerOf h) d room (headerOf h .e)
 
     in-use : (placeNote (found (openAlike (x .incoming) (headerOf h)) || found (freeIncoming (x .incoming))) ≡ 25) ↔ ((AlikeHere x (headerOf h) → ⊥) × (FreeHere x → ⊥))
     in-use = neither _ _ _ (test.takes-one x four (headerOf h))

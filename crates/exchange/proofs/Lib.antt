@@ -2,8 +2,8 @@
 -- and what judging leaves. `Refusing`, `Accepting`: which requests are refused, and what the others leave. `Table`: 01's numbers.
 -- `Cases`: judging and the requests case by case; on it `Tables`, `Filling`, `Holding`, `Joining`, `Areas`: what the areas begin with after
 -- any calls; `Watching`, `Inside`: each place goes through events of a place, as its onlooker sees them; `Flagging`, `Telling`: what the
--- flags tell. `Repeated`, `Judged`, `Blocks`, `Growing`, `Assembling`, `Answering`: the blocks of a cut message, judged in order, are the
--- message. `Numbering`: the transaction numbers. `Determined`: what each public contract determines.
+-- flags tell. `Repeated`, `Outcomes`, `Blocks`, `Growing`, `Assembling`, `Answering`: the blocks of a cut message, judged in order, are the
+-- message. `Numbering`: the transaction numbers.
 pub mod Alike
 pub mod Tests
 pub mod Finding
@@ -25,11 +25,10 @@ pub mod Inside
 pub mod Flagging
 pub mod Telling
 pub mod Repeated
-pub mod Judged
+pub mod Outcomes
 pub mod Blocks
 pub mod Growing
 pub mod Assembling
 pub mod Answering
-pub mod Determined
 pub mod Stilling
 pub mod Numbering

@@ -15,17 +15,17 @@ use Rattle.place.specs.Fate.{beginsPrimary, lacksData, tooLong, fateOf}
 use Rattle.place.specs.Own.{ownKept}
 use Rattle.place.specs.Incoming.{incomingLength}
 use Rattle.place.proofs.Messages.{lacks}
-use Rattle.place.specs.declared.fate.Fate.the-variants as fate
+use Rattle.place.specs.declared.Fate.the-variants as fate
 use Rattle.table.specs.Own.{replyFor}
 use Rattle.table.specs.Incoming.{freeIncoming, messageFor, openAlike}
-use Rattle.table.specs.declared.find.Found.{Found}
-use Rattle.table.specs.declared.find.Found.the-variants.{At, Nowhere}
+use Rattle.table.specs.declared.Found.{Found}
+use Rattle.table.specs.declared.Found.the-variants.{At, Nowhere}
 use Rattle.exchange.specs.Note.{noteBy, noteNumber}
 use Rattle.exchange.specs.Exchange.{ownPlace, incomingPlace, savedNow}
 use Rattle.exchange.specs.Judge.{thrown, isMisrouted, isDuplicate, replyBlock, messageBlock, beginsAt, inFree, inPlace, takesPlace, primaryBy, primaryBlock, orPrimary, ofMessage, noReplyBlock, ofReply, newBlock, judgeOf}
 use Rattle.exchange.specs.Rules.{Duplicate, New, Expected, messageBytes, replyBytes, bytesBefore, total, HasPlace, Ruled, misrouted, duplicate, stray, empty, too-long, no-place, kept, noted, NotesExactly}
-use Rattle.exchange.specs.declared.note.Note.the-variants.{Stray}
-use Rattle.exchange.specs.declared.exchange.Exchange.{Exchange}
+use Rattle.exchange.specs.declared.Note.the-variants.{Stray}
+use Rattle.exchange.specs.declared.Exchange.{Exchange}
 use Rattle.exchange.proofs.Tests.{fails, of-choice}
 use Rattle.exchange.proofs.Finding.{found}
 use Rattle.exchange.proofs.Judging as test
@@ -62,7 +62,7 @@ unfolding fateOf
 fate-note b have size = fate-by (lacksData b size) (tooLong have size) (b .e) (have + size)
 
 -- of a primary that begins
-module _ (x : Exchange) (h d room : List ℕ) where
+module _ (x : Exchange) (h : Header) (d room : List ℕ) where
   in-free : (f : Found) (last : Bool) → noted (inFree f x h last d room) ≡ placeNote (found f)
   unfolding beginsAt thrown
   in-free (At p) last = refl
@@ -73,13 +73,13 @@ module _ (x : Exchange) (h d room : List ℕ) where
   in-place (At p) last = refl
   in-place Nowhere last = in-free (freeIncoming (x .incoming)) last
 
-  pub takes-note : (last : Bool) → noted (takesPlace x h last d room) ≡ placeNote (found (openAlike (x .incoming) (headerOf h)) || found (freeIncoming (x .incoming)))
+  pub takes-note : (last : Bool) → noted (takesPlace x h last d room) ≡ placeNote (found (openAlike (x .incoming) h) || found (freeIncoming (x .incoming)))
   unfolding takesPlace
-  takes-note last = in-place (openAlike (x .incoming) (headerOf h)) last
+  takes-note last = in-place (openAlike (x .incoming) h) last
 
   -- it can take a place
   abbrev room-for : Bool
-  room-for = found (openAlike (x .incoming) (headerOf h)) || found (freeIncoming (x .incoming))
+  room-for = found (openAlike (x .incoming) h) || found (freeIncoming (x .incoming))
 
   primary-by : (l t e : Bool) (n : ℕ)
       → noted (primaryBy (cond l fate.Empty (cond t fate.TooLong (cond e (fate.Last n) (fate.More n)))) x h d room) ≡ dataNote l t (placeNote room-for)
@@ -89,32 +89,32 @@ module _ (x : Exchange) (h d room : List ℕ) where
   primary-by false false true n = takes-note true
   primary-by false false false n = takes-note false
 
-  primary-note : noted (primaryBlock x h d room) ≡ dataNote (lacksData (headerOf h) (length d)) (tooLong 0 (length d)) (placeNote room-for)
+  primary-note : noted (primaryBlock x h d room) ≡ dataNote (lacksData h (length d)) (tooLong 0 (length d)) (placeNote room-for)
   unfolding primaryBlock fateOf
-  primary-note = primary-by (lacksData (headerOf h) (length d)) (tooLong 0 (length d)) (headerOf h .e) (0 + length d)
+  primary-note = primary-by (lacksData h (length d)) (tooLong 0 (length d)) (h .e) (0 + length d)
 
-  or-primary : noted (orPrimary x h d room) ≡ newNote (beginsPrimary (headerOf h)) (lacksData (headerOf h) (length d)) (tooLong 0 (length d)) room-for
+  or-primary : noted (orPrimary x h d room) ≡ newNote (beginsPrimary h) (lacksData h (length d)) (tooLong 0 (length d)) room-for
   unfolding orPrimary thrown
   or-primary =
-      of-choice noted (beginsPrimary (headerOf h)) (primaryBlock x h d room) (thrown x Stray room)
-      ∙ ap (λ (n : ℕ). cond (beginsPrimary (headerOf h)) n 24) primary-note
+      of-choice noted (beginsPrimary h) (primaryBlock x h d room) (thrown x Stray room)
+      ∙ ap (λ (n : ℕ). cond (beginsPrimary h) n 24) primary-note
 
   -- of a message, or a primary
   of-message : (m : Found)
       → noted (ofMessage m x h d room)
-      ≡ newNote (found m || beginsPrimary (headerOf h)) (lacksData (headerOf h) (length d)) (tooLong (messageBytes m (x .incoming)) (length d)) (found m || room-for)
+      ≡ newNote (found m || beginsPrimary h) (lacksData h (length d)) (tooLong (messageBytes m (x .incoming)) (length d)) (found m || room-for)
   unfolding messageBlock
-  of-message (At p) = fate-note (headerOf h) (incomingLength (incomingPlace x p)) (length d)
+  of-message (At p) = fate-note h (incomingLength (incomingPlace x p)) (length d)
   of-message Nowhere = or-primary
 
   -- of a reply, or one of these
   of-reply : (f : Found)
       → noted (ofReply f x h d room)
-      ≡ newNote (found f || (found (messageFor (x .incoming) (headerOf h)) || beginsPrimary (headerOf h))) (lacksData (headerOf h) (length d))
-      (tooLong (replyBytes f (x .own) (x .incoming) (headerOf h)) (length d)) (found f || (found (messageFor (x .incoming) (headerOf h)) || room-for))
+      ≡ newNote (found f || (found (messageFor (x .incoming) h) || beginsPrimary h)) (lacksData h (length d))
+      (tooLong (replyBytes f (x .own) (x .incoming) h) (length d)) (found f || (found (messageFor (x .incoming) h) || room-for))
   unfolding replyBlock noReplyBlock
-  of-reply (At p) = fate-note (headerOf h) (ownKept (ownPlace x p) .length) (length d)
-  of-reply Nowhere = of-message (messageFor (x .incoming) (headerOf h))
+  of-reply (At p) = fate-note h (ownKept (ownPlace x p) .length) (length d)
+  of-reply Nowhere = of-message (messageFor (x .incoming) h)
 
 -- ---- the six tests of a block
 
@@ -126,10 +126,10 @@ hasPlace x b = found (replyFor (x .own) b) || (found (messageFor (x .incoming) b
 
 -- the note of a block that passed 1 and 2
 new-note : (x : Exchange) (h d room : List ℕ)
-    → noted (newBlock (savedNow x h) h d room)
+    → noted (newBlock (savedNow x h) (headerOf h) d room)
     ≡ newNote (isExpected x (headerOf h)) (lacksData (headerOf h) (length d)) (tooLong (bytesBefore x (headerOf h)) (length d)) (hasPlace x (headerOf h))
 unfolding newBlock savedNow
-new-note x h d room = of-reply (savedNow x h) h d room (replyFor (x .own) (headerOf h))
+new-note x h d room = of-reply (savedNow x h) (headerOf h) d room (replyFor (x .own) (headerOf h))
 
 -- of any block
 note-by : (c : Terms) (x : Exchange) (h d room : List ℕ)

@@ -15,11 +15,11 @@ use Rattle.header.specs.declared.header.Header.{Header}
 use Rattle.settings.specs.declared.terms.Terms.{Terms}
 use Rattle.settings.proofs.Timers.{by-timer}
 use Rattle.place.specs.Own.{freshOwn, primaryOf, standingAt, givenBy, ownStanding, ownIsFree, ownHasVerdict, ownKept, ended, ownSent, ownFailed, awaitedBy, awaitTick, replyingBy, replyTick, ownTick, ownOffered}
-use Rattle.place.specs.declared.verdict.Verdict.{Verdict}
-use Rattle.place.specs.declared.verdict.Standing.the-variants.{Free, Open, Given}
-use Rattle.place.specs.declared.own.OwnStage.{OwnStage}
-use Rattle.place.specs.declared.own.OwnStage.the-variants as stage
-use Rattle.place.specs.declared.own.Own.{Own}
+use Rattle.place.specs.declared.Verdict.{Verdict}
+use Rattle.place.specs.declared.Standing.the-variants.{Free, Open, Given}
+use Rattle.place.specs.declared.OwnStage.{OwnStage}
+use Rattle.place.specs.declared.OwnStage.the-variants as stage
+use Rattle.place.specs.declared.Own.{Own}
 use Rattle.table.specs.Own.{ownAt, withOwn, tickedOwn}
 use Rattle.table.specs.Number.{numberOf}
 use Rattle.table.proofs.Finding.{reply-lowest}
@@ -35,15 +35,15 @@ use Rattle.exchange.specs.Refusals.{numberGiven}
 use Rattle.exchange.specs.Rules.{Fours}
 use Rattle.exchange.specs.History.{block, tick, acknowledged, failed, primary, reply, free-own, free-incoming, atStart}
 use Rattle.exchange.specs.Numbers.{numberShown, shows, anyVerdict, byLine, byPlace, gets, NumbersSeen, highest, latestSeen, lastBy, numbersSees, numbersAtStart, NumbersAre, NumbersKeptOn, NumbersKept, inUse, NumberDistinct}
-use Rattle.exchange.specs.declared.exchange.Sending.{Sending}
-use Rattle.exchange.specs.declared.exchange.Sending.the-variants as sending
-use Rattle.exchange.specs.declared.exchange.Numbers.{Numbers}
-use Rattle.exchange.specs.declared.exchange.Exchange.{Exchange}
-use Rattle.exchange.specs.declared.reading.OwnReading.{OwnReading}
-use Rattle.exchange.specs.declared.reading.OwnReading.the-variants.{NoPlace, Place}
-use Rattle.exchange.specs.declared.request.Asked.{Asked}
-use Rattle.exchange.specs.declared.request.Asked.the-variants.{Taken, Refused}
-use Rattle.exchange.specs.declared.request.Primary.{Primary}
+use Rattle.exchange.specs.declared.Sending.{Sending}
+use Rattle.exchange.specs.declared.Sending.the-variants as sending
+use Rattle.exchange.specs.declared.Numbers.{Numbers}
+use Rattle.exchange.specs.declared.Exchange.{Exchange}
+use Rattle.exchange.specs.declared.OwnReading.{OwnReading}
+use Rattle.exchange.specs.declared.OwnReading.the-variants.{NoPlace, Place}
+use Rattle.exchange.specs.declared.Asked.{Asked}
+use Rattle.exchange.specs.declared.Asked.the-variants.{Taken, Refused}
+use Rattle.exchange.specs.declared.Primary.{Primary}
 use Rattle.exchange.proofs.Cases.{by-judge}
 use Rattle.exchange.proofs.Accepting.{refused-number, refused-changes-nothing, accepted-opens, accepted-replies, accepted-releases}
 use Rattle.exchange.proofs.Areas.{fresh-good}

@@ -14,22 +14,22 @@ use Rattle.header.specs.declared.header.Header.{Header}
 use Rattle.settings.specs.declared.terms.Terms.{Terms}
 use Rattle.place.specs.Own.{freshOwn, standingAt, freeBy, givenBy, ownHasVerdict}
 use Rattle.place.specs.Incoming.{freshIncoming, primaryOf, completeAt, repliedAt, incomingIsReplied}
-use Rattle.place.specs.declared.own.OwnStage.{OwnStage}
-use Rattle.place.specs.declared.own.OwnStage.the-variants as own
-use Rattle.place.specs.declared.incoming.IncomingStage.{IncomingStage}
-use Rattle.place.specs.declared.incoming.IncomingStage.the-variants as incoming
+use Rattle.place.specs.declared.OwnStage.{OwnStage}
+use Rattle.place.specs.declared.OwnStage.the-variants as own
+use Rattle.place.specs.declared.IncomingStage.{IncomingStage}
+use Rattle.place.specs.declared.IncomingStage.the-variants as incoming
 use Rattle.table.specs.Own.{freeOwn}
 use Rattle.table.proofs.Finding.{free-own-lowest}
-use Rattle.table.specs.declared.find.Found.{Found}
-use Rattle.table.specs.declared.find.Found.the-variants.{At, Nowhere}
+use Rattle.table.specs.declared.Found.{Found}
+use Rattle.table.specs.declared.Found.the-variants.{At, Nowhere}
 use Rattle.exchange.specs.Exchange.{ownPlace, incomingPlace}
 use Rattle.exchange.specs.Request.{Asking, refusedBy, refused, badPrimary, badFunction, dataLong, sendingBy, isSending, notReady, openBy, openFree, openOf, replyAccepted, replyReady, replyOf, releaseOwn, releaseIncoming}
 use Rattle.exchange.specs.Rules.{Fours, Somewhere, LowestAt}
 use Rattle.exchange.specs.Refusals.{BadPrimary, BadReply, DataAbove, IsSending, OwnFree, NoVerdict, own-above, own-free, without, NotReady, above, free, not-complete, on-its-way, NotWanted, RepliedBefore, replied, OpenRuled, open-5, open-6, open-7, open-8, open-0, Owed, ReplyRuled, reply-9, reply-10, reply-11, reply-5, reply-6, reply-7, reply-0, ReleaseRuled, release-9, release-0, numbered, OpenExactly, ReplyExactly, ReleaseOwnExactly, ReleaseIncomingExactly}
-use Rattle.exchange.specs.declared.exchange.Sending.{Sending}
-use Rattle.exchange.specs.declared.exchange.Sending.the-variants as sending
-use Rattle.exchange.specs.declared.exchange.Exchange.{Exchange}
-use Rattle.exchange.specs.declared.request.Primary.{Primary}
+use Rattle.exchange.specs.declared.Sending.{Sending}
+use Rattle.exchange.specs.declared.Sending.the-variants as sending
+use Rattle.exchange.specs.declared.Exchange.{Exchange}
+use Rattle.exchange.specs.declared.Primary.{Primary}
 use Rattle.exchange.proofs.Tests.{fails, of-choice}
 use Rattle.exchange.proofs.Finding.{found, somewhere, lowest}
 

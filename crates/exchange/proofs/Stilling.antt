@@ -11,18 +11,18 @@ use Rattle.place.specs.Own.{freshOwn, ownTick, ownHasVerdict}
 use Rattle.place.specs.Own as own-specs
 use Rattle.place.specs.Incoming.{freshIncoming, incomingTick, incomingIsOpen}
 use Rattle.place.specs.Incoming as incoming-specs
-use Rattle.place.specs.declared.own.OwnStage.{OwnStage}
-use Rattle.place.specs.declared.own.OwnStage.the-variants as own
-use Rattle.place.specs.declared.own.Own.{Own}
-use Rattle.place.specs.declared.incoming.IncomingStage.{IncomingStage}
-use Rattle.place.specs.declared.incoming.IncomingStage.the-variants as incoming
-use Rattle.place.specs.declared.incoming.Incoming.{Incoming}
+use Rattle.place.specs.declared.OwnStage.{OwnStage}
+use Rattle.place.specs.declared.OwnStage.the-variants as own
+use Rattle.place.specs.declared.Own.{Own}
+use Rattle.place.specs.declared.IncomingStage.{IncomingStage}
+use Rattle.place.specs.declared.IncomingStage.the-variants as incoming
+use Rattle.place.specs.declared.Incoming.{Incoming}
 use Rattle.table.specs.Own.{ownAt}
 use Rattle.table.specs.Incoming.{incomingAt}
 use Rattle.table.proofs.Fours.{map-four}
 use Rattle.exchange.specs.Exchange.{gotVerdict, latestAfter}
 use Rattle.exchange.specs.Tick.{wasDropped, tickOf, timedAt, ownTimed, ownsTimed, incomingsTimed, isStill, StillTick}
-use Rattle.exchange.specs.declared.exchange.Exchange.{Exchange}
+use Rattle.exchange.specs.declared.Exchange.{Exchange}
 
 -- ---- one place
 

@@ -16,16 +16,16 @@ use Rattle.place.specs.Message.{LacksData}
 use Rattle.place.specs.Own.{ownTick, ownOffered, ownSent, ownFailed}
 use Rattle.place.specs.Incoming.{freshIncoming, incomingIsComplete, incomingIsOpen, incomingIsFree, openAt, freeAt, completeAt, incomingTick, openTick, openBy, incomingLength, incomingTakes, keptBy, begunBy, endedAt}
 use Rattle.place.proofs.Messages.{by-fate}
-use Rattle.place.specs.declared.fate.Fate.{Fate}
-use Rattle.place.specs.declared.fate.Fate.the-variants as fate
-use Rattle.place.specs.declared.incoming.End.{End}
-use Rattle.place.specs.declared.incoming.End.the-variants as end
-use Rattle.place.specs.declared.incoming.IncomingStage.{IncomingStage}
-use Rattle.place.specs.declared.incoming.IncomingStage.the-variants as arrival
-use Rattle.place.specs.declared.incoming.Incoming.{Incoming}
+use Rattle.place.specs.declared.Fate.{Fate}
+use Rattle.place.specs.declared.Fate.the-variants as fate
+use Rattle.place.specs.declared.End.{End}
+use Rattle.place.specs.declared.End.the-variants as end
+use Rattle.place.specs.declared.IncomingStage.{IncomingStage}
+use Rattle.place.specs.declared.IncomingStage.the-variants as arrival
+use Rattle.place.specs.declared.Incoming.{Incoming}
 use Rattle.table.specs.Own.{ownAt, replyFor}
 use Rattle.table.specs.Incoming.{incomingAt, messageFor}
-use Rattle.table.specs.declared.find.Found.the-variants.{Nowhere}
+use Rattle.table.specs.declared.Found.the-variants.{Nowhere}
 use Rattle.table.proofs.Finding.{message-lowest, open-alike-lowest}
 use Rattle.exchange.specs.Flags.{noMarks, markAt, noFlags, incomingFlags}
 use Rattle.exchange.specs.Exchange.{ownPlace, incomingPlace, gotVerdict, putOwn, putIncoming, withSending, savedNow}
@@ -42,16 +42,16 @@ use Rattle.exchange.proofs.Joining.{offered-kept}
 use Rattle.exchange.proofs.Areas.{taken-place, begun-at}
 use Rattle.exchange.proofs.Watching.{right-way}
 use Rattle.exchange.proofs.Flagging.{unmarked, marked-here, Forced, unflagged, own-flagged, incoming-flagged}
-use Rattle.exchange.specs.declared.note.Note.{Note}
-use Rattle.exchange.specs.declared.note.Note.the-variants.{Misrouted, Duplicate}
-use Rattle.exchange.specs.declared.exchange.Sending.{Sending}
-use Rattle.exchange.specs.declared.exchange.Sending.the-variants as sending
-use Rattle.exchange.specs.declared.exchange.Exchange.{Exchange}
+use Rattle.exchange.specs.declared.Note.{Note}
+use Rattle.exchange.specs.declared.Note.the-variants.{Misrouted, Duplicate}
+use Rattle.exchange.specs.declared.Sending.{Sending}
+use Rattle.exchange.specs.declared.Sending.the-variants as sending
+use Rattle.exchange.specs.declared.Exchange.{Exchange}
 
 -- ---- a block
 
 -- a place that takes a block is open
-takes-open : (h : List ℕ) (s : IncomingStage) (b : Header) → incomingTakes (record { header = h; stage = s }) b ≡ true → openAt s ≡ true
+takes-open : (h : Header) (s : IncomingStage) (b : Header) → incomingTakes (record { header = h; stage = s }) b ≡ true → openAt s ≡ true
 takes-open h arrival.Free b t = absurd (false≢true t)
 takes-open h (arrival.Open timer next n) b t = refl
 takes-open h (arrival.Complete n) b t = absurd (false≢true t)
@@ -77,7 +77,7 @@ module _ (i : Incoming) (incomplete : incomingIsComplete i ≡ false) where
   kept-complete n (fate.More k) = sym (rw incomplete)
 
   -- a first block that is kept
-  begun-complete : (h : List ℕ) (n : ℕ) (f : Fate) → spoiltBy f ≡ false → lastBy f ≡ becameComplete i (begunBy i h n f)
+  begun-complete : (h : Header) (n : ℕ) (f : Fate) → spoiltBy f ≡ false → lastBy f ≡ becameComplete i (begunBy i h n f)
   unfolding becameComplete
   begun-complete h n fate.Empty e = absurd (false≢true (sym e))
   begun-complete h n fate.TooLong e = absurd (false≢true (sym e))
@@ -92,7 +92,7 @@ kept-dropped i opened n (fate.Last k) = (λ e. absurd (false≢true e), λ d. ab
 kept-dropped i opened n (fate.More k) = (λ e. absurd (false≢true e), λ d. absurd (false≢true (d .is-free)))
 
 -- no place is free where a message begins
-begun-there : (i : Incoming) (h : List ℕ) (n : ℕ) (f : Fate) → spoiltBy f ≡ false → Dropped i (begunBy i h n f) → ⊥
+begun-there : (i : Incoming) (h : Header) (n : ℕ) (f : Fate) → spoiltBy f ≡ false → Dropped i (begunBy i h n f) → ⊥
 begun-there i h n fate.Empty e d = false≢true (sym e)
 begun-there i h n fate.TooLong e d = false≢true (sym e)
 begun-there i h n (fate.Last k) e d = false≢true (d .is-free)
@@ -161,14 +161,14 @@ module _ (c : Terms) (x : Exchange) (four : Fours x) (h d : List ℕ) where
       let i = incomingPlace x p in
       let w = taken-place x b p gone (four .incoming) t in
       rw (← e)
-      (begun-at h d (i .header) (i .stage)
+      (begun-at b d (i .header) (i .stage)
       (λ a.
       let raised = incomingFlags p (lastBy (fateOf b 0 (length d))) gone in
       let y : Exchange = record { own = x .own; incoming = set (x .incoming) p a; saved = record { any = true; header = h }; numbers = x .numbers; sending = x .sending } in
       Forced T raised → Flagged x y T raised)
       (w .1)
-      (incoming-flagged x _ T p _ _ gone (four .incoming) refl refl (begun-complete i (open-incomplete (i .stage) (w .1)) h (b .number) (fateOf b 0 (length d)) (ap spoiltBy e ∙ s))
-      (λ z. absurd (begun-there i h (b .number) (fateOf b 0 (length d)) (ap spoiltBy e ∙ s) z)) (λ g. inr (throws-out p gone f q u r m o e s t g)))))
+      (incoming-flagged x _ T p _ _ gone (four .incoming) refl refl (begun-complete i (open-incomplete (i .stage) (w .1)) b (b .number) (fateOf b 0 (length d)) (ap spoiltBy e ∙ s))
+      (λ z. absurd (begun-there i b (b .number) (fateOf b 0 (length d)) (ap spoiltBy e ∙ s) z)) (λ g. inr (throws-out p gone f q u r m o e s t g)))))
       (λ n t r m. unflagged x _ T refl refl)
 
   judged-flags : (room : List ℕ) → Flagged x (judgeOf c x h d room .answer .exchange) (ThrowsOut c x h d) (judgeOf c x h d room .answer .flags)
@@ -185,7 +185,7 @@ four-at f (suc (suc (suc zero))) k = refl
 four-at f (suc (suc (suc (suc p)))) k = absurd (omega arith)
 
 -- a tick completes no message
-tick-incomplete : (c : Terms) (h : List ℕ) (s : IncomingStage) → becameComplete (record { header = h; stage = s }) (incomingTick c (record { header = h; stage = s })) ≡ false
+tick-incomplete : (c : Terms) (h : Header) (s : IncomingStage) → becameComplete (record { header = h; stage = s }) (incomingTick c (record { header = h; stage = s })) ≡ false
 unfolding becameComplete openTick
 tick-incomplete c h arrival.Free = refl
 tick-incomplete c h (arrival.Open timer next n) =
@@ -223,7 +223,7 @@ mark-none (suc (suc (suc zero))) = refl
 mark-none (suc (suc (suc (suc p)))) = refl
 
 -- a reply that ends completes no message and drops none
-ended-incomplete : (z : End) (h : List ℕ) (s : IncomingStage) → becameComplete (record { header = h; stage = s }) (endedAt z s (record { header = h; stage = s })) ≡ false
+ended-incomplete : (z : End) (h : Header) (s : IncomingStage) → becameComplete (record { header = h; stage = s }) (endedAt z s (record { header = h; stage = s })) ≡ false
 unfolding becameComplete
 ended-incomplete z h arrival.Free = refl
 ended-incomplete z h (arrival.Open timer next n) = refl
@@ -231,7 +231,7 @@ ended-incomplete z h (arrival.Complete n) = refl
 ended-incomplete z h (arrival.Replying n) = refl
 ended-incomplete z h (arrival.Replied n e) = refl
 
-ended-there : (z : End) (h : List ℕ) (s : IncomingStage) → Dropped (record { header = h; stage = s }) (endedAt z s (record { header = h; stage = s })) → ⊥
+ended-there : (z : End) (h : Header) (s : IncomingStage) → Dropped (record { header = h; stage = s }) (endedAt z s (record { header = h; stage = s })) → ⊥
 ended-there z h arrival.Free d = false≢true (d .was-open)
 ended-there z h (arrival.Open timer next n) d = false≢true (d .is-free)
 ended-there z h (arrival.Complete n) d = false≢true (d .was-open)

@@ -19,18 +19,18 @@ use Rattle.place.specs.OwnTheorems.{Reached as OwnReached}
 use Rattle.place.specs.Incoming.{freshIncoming, incomingLength, incomingTakes, freeAt, openAt, completeAt, repliedAt}
 use Rattle.place.specs.IncomingHistory as incoming
 use Rattle.place.specs.IncomingTheorems.{Reached as IncomingReached}
-use Rattle.place.specs.declared.fate.Fate.{Fate}
-use Rattle.place.specs.declared.fate.Fate.the-variants as fate
-use Rattle.place.specs.declared.verdict.Standing.{Standing}
-use Rattle.place.specs.declared.verdict.Standing.the-variants as standing
-use Rattle.place.specs.declared.own.Own.{Own}
-use Rattle.place.specs.declared.incoming.IncomingStage.{IncomingStage}
-use Rattle.place.specs.declared.incoming.IncomingStage.the-variants as arrival
-use Rattle.place.specs.declared.incoming.Incoming.{Incoming}
+use Rattle.place.specs.declared.Fate.{Fate}
+use Rattle.place.specs.declared.Fate.the-variants as fate
+use Rattle.place.specs.declared.Standing.{Standing}
+use Rattle.place.specs.declared.Standing.the-variants as standing
+use Rattle.place.specs.declared.Own.{Own}
+use Rattle.place.specs.declared.IncomingStage.{IncomingStage}
+use Rattle.place.specs.declared.IncomingStage.the-variants as arrival
+use Rattle.place.specs.declared.Incoming.{Incoming}
 use Rattle.table.specs.Own.{replyFor}
 use Rattle.table.specs.Incoming.{messageFor, openAlike, freeIncoming}
-use Rattle.table.specs.declared.find.Found.{Found}
-use Rattle.table.specs.declared.find.Found.the-variants.{At, Nowhere}
+use Rattle.table.specs.declared.Found.{Found}
+use Rattle.table.specs.declared.Found.the-variants.{At, Nowhere}
 use Rattle.table.proofs.Finding.{reply-lowest, message-lowest}
 use Rattle.table.proofs.Tables.{own-table, incoming-table}
 use Rattle.exchange.specs.Note.{noteBy}
@@ -46,12 +46,12 @@ use Rattle.exchange.proofs.Tables.{set-one}
 use Rattle.exchange.proofs.Repeated.{any-fresh}
 use Rattle.exchange.proofs.Judging.{routed}
 use Rattle.exchange.proofs.Areas.{taken-place, GoodTrack, one-call, fresh-good}
-use Rattle.exchange.specs.declared.note.Note.{Note}
-use Rattle.exchange.specs.declared.exchange.Sending.{Sending}
-use Rattle.exchange.specs.declared.exchange.Sending.the-variants as sending
-use Rattle.exchange.specs.declared.exchange.Exchange.{Exchange}
-use Rattle.exchange.specs.declared.request.Primary.{Primary}
-use Rattle.exchange.specs.declared.request.Requested.{Requested}
+use Rattle.exchange.specs.declared.Note.{Note}
+use Rattle.exchange.specs.declared.Sending.{Sending}
+use Rattle.exchange.specs.declared.Sending.the-variants as sending
+use Rattle.exchange.specs.declared.Exchange.{Exchange}
+use Rattle.exchange.specs.declared.Primary.{Primary}
+use Rattle.exchange.specs.declared.Requested.{Requested}
 
 -- ---- one event more
 
@@ -256,7 +256,7 @@ module _ (c : Terms) (x : Exchange) (four : length (x .incoming) ≡ 4) (p : ℕ
       (λ q e r m. rw (r, m, ← next-told (incomingPlace x q) b (length d) (message-lowest (x .incoming) b four .at q .0 m .1)) (incoming-put q (incoming.block b (length d) (right-way c b e))))
       (λ q gone f e r m o v u t.
       rw (r, m, takes-found x b q gone t)
-      (rw (first-told (incomingPlace x q) b (length d) (taken-place x b q gone four t .1) (ap spoiltBy v ∙ u)) at (incoming-put q (incoming.begin h (length d) (right-way c b e) o))))
+      (rw (first-told (incomingPlace x q) b (length d) (taken-place x b q gone four t .1) (ap spoiltBy v ∙ u)) at (incoming-put q (incoming.begin b (length d) (right-way c b e) o))))
       (λ n t r m. rw (r, m, thrown-first n t, same-either) w)
 
   incoming-ticked : IncomingAt c p (tickOf c x .exchange) (incomingSees c p x [] s tick)

@@ -18,10 +18,10 @@ use Rattle.room.specs.declared.Message.the-variants as message
 use Rattle.place.specs.Message.{Routed}
 use Rattle.place.specs.Own.{freshOwn, replyOf}
 use Rattle.place.specs.OwnTheorems.{Answers, Declines}
-use Rattle.place.specs.declared.own.OwnStage.the-variants.{Awaiting}
-use Rattle.place.specs.declared.verdict.Verdict.{Verdict}
-use Rattle.place.specs.declared.verdict.Verdict.the-variants.{Sent, Answered, Declined, Other, Broken, NoReply, SendFailed}
-use Rattle.place.specs.declared.verdict.Standing.the-variants.{Given}
+use Rattle.place.specs.declared.OwnStage.the-variants.{Awaiting}
+use Rattle.place.specs.declared.Verdict.{Verdict}
+use Rattle.place.specs.declared.Verdict.the-variants.{Sent, Answered, Declined, Other, Broken, NoReply, SendFailed}
+use Rattle.place.specs.declared.Standing.the-variants.{Given}
 use Rattle.table.specs.Own.{withOwn}
 use Rattle.exchange.specs.Note.{noteNumber}
 use Rattle.exchange.specs.Flags.{noFlags, verdictFlag, incomingFlags}
@@ -29,10 +29,10 @@ use Rattle.exchange.specs.Exchange.{freshExchange}
 use Rattle.exchange.specs.Send.{replyTo}
 use Rattle.exchange.specs.Judge.{Judging, isDuplicate, judgeOf}
 use Rattle.exchange.specs.Reading.{wanted, ownReading, incomingReading}
-use Rattle.exchange.specs.declared.flags.Flags.{Flags}
-use Rattle.exchange.specs.declared.exchange.Exchange.{Exchange}
-use Rattle.exchange.specs.declared.reading.OwnReading.the-variants as own
-use Rattle.exchange.specs.declared.reading.IncomingReading.the-variants as incoming
+use Rattle.exchange.specs.declared.Flags.{Flags}
+use Rattle.exchange.specs.declared.Exchange.{Exchange}
+use Rattle.exchange.specs.declared.OwnReading.the-variants as own
+use Rattle.exchange.specs.declared.IncomingReading.the-variants as incoming
 
 -- ---- the blocks of a message d with header h
 

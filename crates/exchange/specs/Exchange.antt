@@ -5,14 +5,14 @@ use mathlib.Core.List.{List}
 use lib.ListN.{replicate}
 use Rattle.place.specs.Own.{freshOwn, ownHasVerdict}
 use Rattle.place.specs.Incoming.{freshIncoming}
-use Rattle.place.specs.declared.own.Own.{Own}
-use Rattle.place.specs.declared.incoming.Incoming.{Incoming}
+use Rattle.place.specs.declared.Own.{Own}
+use Rattle.place.specs.declared.Incoming.{Incoming}
 use Rattle.table.specs.Own.{ownAt, withOwn}
 use Rattle.table.specs.Incoming.{incomingAt, withIncoming}
 use Rattle.table.specs.Number.{numberOf}
-use Rattle.exchange.specs.declared.exchange.Sending.{Sending}
-use Rattle.exchange.specs.declared.exchange.Sending.the-variants as sending
-use Rattle.exchange.specs.declared.exchange.Exchange.{Exchange}
+use Rattle.exchange.specs.declared.Sending.{Sending}
+use Rattle.exchange.specs.declared.Sending.the-variants as sending
+use Rattle.exchange.specs.declared.Exchange.{Exchange}
 
 abbrev pub freshExchange : ℕ → Exchange
 freshExchange last = record {

@@ -3,7 +3,7 @@ use Prim.Native.Nat.{ℕ}
 use mathlib.Core.Bool.{Bool, false}
 use mathlib.Core.List.{List}
 use lib.ListN.{replicate, set}
-use Rattle.exchange.specs.declared.flags.Flags.{Flags}
+use Rattle.exchange.specs.declared.Flags.{Flags}
 
 abbrev pub noMarks : List Bool
 noMarks = replicate 4 false

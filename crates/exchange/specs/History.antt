@@ -8,19 +8,19 @@ use Rattle.header.specs.Header.{headerOf}
 use Rattle.settings.specs.declared.terms.Terms.{Terms}
 use Rattle.table.specs.Own.{replyFor}
 use Rattle.table.specs.Incoming.{messageFor, openAlike, freeIncoming}
-use Rattle.table.specs.declared.find.Found.{Found}
-use Rattle.table.specs.declared.find.Found.the-variants.{At, Nowhere}
+use Rattle.table.specs.declared.Found.{Found}
+use Rattle.table.specs.declared.Found.the-variants.{At, Nowhere}
 use Rattle.exchange.specs.Exchange.{freshExchange}
 use Rattle.exchange.specs.Tick.{tickOf}
 use Rattle.exchange.specs.Send.{sentOf, failedOf}
 use Rattle.exchange.specs.Judge.{Judging, judgeOf}
 use Rattle.exchange.specs.Request.{Asking, openOf, replyOf, releaseOwn, releaseIncoming}
-use Rattle.exchange.specs.declared.note.Note.{Note}
-use Rattle.exchange.specs.declared.note.Note.the-variants.{Kept, Misrouted, Duplicate, Stray, NoPlace, TooLong, Empty}
-use Rattle.exchange.specs.declared.exchange.Exchange.{Exchange}
-use Rattle.exchange.specs.declared.request.Asked.{Asked}
-use Rattle.exchange.specs.declared.request.Asked.the-variants.{Taken, Refused}
-use Rattle.exchange.specs.declared.request.Primary.{Primary}
+use Rattle.exchange.specs.declared.Note.{Note}
+use Rattle.exchange.specs.declared.Note.the-variants.{Kept, Misrouted, Duplicate, Stray, NoPlace, TooLong, Empty}
+use Rattle.exchange.specs.declared.Exchange.{Exchange}
+use Rattle.exchange.specs.declared.Asked.{Asked}
+use Rattle.exchange.specs.declared.Asked.the-variants.{Taken, Refused}
+use Rattle.exchange.specs.declared.Primary.{Primary}
 
 -- A block went up, with its ten header bytes and its data; 0.1 s passed; the last block of the message being sent was acknowledged;
 -- a block of it failed; a primary, a reply, a release are asked for.

@@ -13,22 +13,22 @@ use Rattle.room.specs.declared.Message.the-variants as message
 use Rattle.place.specs.Fate.{beginsPrimary, fateOf, sameBit}
 use Rattle.place.specs.Own.{ownKept, ownOffered}
 use Rattle.place.specs.Incoming.{incomingLength, incomingBegun, incomingOffered}
-use Rattle.place.specs.declared.fate.Fate.{Fate}
-use Rattle.place.specs.declared.fate.Fate.the-variants as fate
-use Rattle.place.specs.declared.own.Own.{Own}
-use Rattle.place.specs.declared.incoming.Incoming.{Incoming}
+use Rattle.place.specs.declared.Fate.{Fate}
+use Rattle.place.specs.declared.Fate.the-variants as fate
+use Rattle.place.specs.declared.Own.{Own}
+use Rattle.place.specs.declared.Incoming.{Incoming}
 use Rattle.table.specs.Own.{replyFor}
 use Rattle.table.specs.Incoming.{freeIncoming, messageFor, openAlike}
-use Rattle.table.specs.declared.find.Found.{Found}
-use Rattle.table.specs.declared.find.Found.the-variants.{At, Nowhere}
+use Rattle.table.specs.declared.Found.{Found}
+use Rattle.table.specs.declared.Found.the-variants.{At, Nowhere}
 use Rattle.exchange.specs.Note.{noteBy}
 use Rattle.exchange.specs.Flags.{noFlags, verdictFlag, incomingFlags}
 use Rattle.exchange.specs.Exchange.{ownPlace, incomingPlace, gotVerdict, putOwn, putIncoming, savedNow}
-use Rattle.exchange.specs.declared.note.Note.{Note}
-use Rattle.exchange.specs.declared.note.Note.the-variants.{Kept, Misrouted, Duplicate, Stray, NoPlace, TooLong, Empty}
-use Rattle.exchange.specs.declared.exchange.Saved.{Saved}
-use Rattle.exchange.specs.declared.exchange.Exchange.{Exchange}
-use Rattle.exchange.specs.declared.judge.Judged.{Judged}
+use Rattle.exchange.specs.declared.Note.{Note}
+use Rattle.exchange.specs.declared.Note.the-variants.{Kept, Misrouted, Duplicate, Stray, NoPlace, TooLong, Empty}
+use Rattle.exchange.specs.declared.Saved.{Saved}
+use Rattle.exchange.specs.declared.Exchange.{Exchange}
+use Rattle.exchange.specs.declared.Judged.{Judged}
 
 -- What judging leaves: what it answers, and every byte of the room.
 pub record Judging : Type 0 where
@@ -114,58 +114,59 @@ messageBlock x p h d room =
 -- ---- the first block of a primary
 
 -- 7: kept; `gone` says whether it throws an open message out, `last` whether it is complete with this block
-unfoldable pub beginsAt : Exchange → ℕ → List ℕ → Bool → Bool → List ℕ → List ℕ → Judging
+unfoldable pub beginsAt : Exchange → ℕ → Header → Bool → Bool → List ℕ → List ℕ → Judging
 beginsAt x p h gone last d room =
     judging
     (record { exchange = putIncoming x p (incomingBegun (incomingPlace x p) h (length d)); note = Kept; flags = incomingFlags p last gone })
     (keptIn room (message.Incoming p) 0 d)
 
 -- "note 25 exactly if all four are in use"
-abbrev pub inFree : Found → Exchange → List ℕ → Bool → List ℕ → List ℕ → Judging
+abbrev pub inFree : Found → Exchange → Header → Bool → List ℕ → List ℕ → Judging
 inFree (At p) x h last d room = beginsAt x p h false last d room
 inFree Nowhere x h last d room = thrown x NoPlace room
 
 -- 6: "throws that one out and takes its place .. Otherwise it takes the lowest free incoming place"
-abbrev pub inPlace : Found → Exchange → List ℕ → Bool → List ℕ → List ℕ → Judging
+abbrev pub inPlace : Found → Exchange → Header → Bool → List ℕ → List ℕ → Judging
 inPlace (At p) x h last d room = beginsAt x p h true last d room
 inPlace Nowhere x h last d room = inFree (freeIncoming (x .incoming)) x h last d room
 
-unfoldable pub takesPlace : Exchange → List ℕ → Bool → List ℕ → List ℕ → Judging
-takesPlace x h last d room = inPlace (openAlike (x .incoming) (headerOf h)) x h last d room
+unfoldable pub takesPlace : Exchange → Header → Bool → List ℕ → List ℕ → Judging
+takesPlace x h last d room = inPlace (openAlike (x .incoming) h) x h last d room
 
 -- 4 and 5 before 6: "A primary not yet open takes no place."
-abbrev pub primaryBy : Fate → Exchange → List ℕ → List ℕ → List ℕ → Judging
+abbrev pub primaryBy : Fate → Exchange → Header → List ℕ → List ℕ → Judging
 primaryBy fate.Empty x h d room = thrown x Empty room
 primaryBy fate.TooLong x h d room = thrown x TooLong room
 primaryBy (fate.Last n) x h d room = takesPlace x h true d room
 primaryBy (fate.More n) x h d room = takesPlace x h false d room
 
-unfoldable pub primaryBlock : Exchange → List ℕ → List ℕ → List ℕ → Judging
-primaryBlock x h d room = primaryBy (fateOf (headerOf h) 0 (length d)) x h d room
+unfoldable pub primaryBlock : Exchange → Header → List ℕ → List ℕ → Judging
+primaryBlock x h d room = primaryBy (fateOf h 0 (length d)) x h d room
 
 -- ---- rule 3
 
 -- "If it is neither, it must begin a primary .. Else note 24."
-unfoldable pub orPrimary : Exchange → List ℕ → List ℕ → List ℕ → Judging
-orPrimary x h d room = cond (beginsPrimary (headerOf h)) (primaryBlock x h d room) (thrown x Stray room)
+unfoldable pub orPrimary : Exchange → Header → List ℕ → List ℕ → Judging
+orPrimary x h d room = cond (beginsPrimary h) (primaryBlock x h d room) (thrown x Stray room)
 
-abbrev pub ofMessage : Found → Exchange → List ℕ → List ℕ → List ℕ → Judging
-ofMessage (At p) x h d room = messageBlock x p (headerOf h) d room
+abbrev pub ofMessage : Found → Exchange → Header → List ℕ → List ℕ → Judging
+ofMessage (At p) x h d room = messageBlock x p h d room
 ofMessage Nowhere x h d room = orPrimary x h d room
 
-unfoldable pub noReplyBlock : Exchange → List ℕ → List ℕ → List ℕ → Judging
-noReplyBlock x h d room = ofMessage (messageFor (x .incoming) (headerOf h)) x h d room
+unfoldable pub noReplyBlock : Exchange → Header → List ℕ → List ℕ → Judging
+noReplyBlock x h d room = ofMessage (messageFor (x .incoming) h) x h d room
 
-abbrev pub ofReply : Found → Exchange → List ℕ → List ℕ → List ℕ → Judging
-ofReply (At p) x h d room = replyBlock x p (headerOf h) d room
+abbrev pub ofReply : Found → Exchange → Header → List ℕ → List ℕ → Judging
+ofReply (At p) x h d room = replyBlock x p h d room
 ofReply Nowhere x h d room = noReplyBlock x h d room
 
 -- "Continues an open message .. or is the first block of an awaited reply .. If it is neither .."
-unfoldable pub newBlock : Exchange → List ℕ → List ℕ → List ℕ → Judging
-newBlock x h d room = ofReply (replyFor (x .own) (headerOf h)) x h d room
+unfoldable pub newBlock : Exchange → Header → List ℕ → List ℕ → Judging
+newBlock x h d room = ofReply (replyFor (x .own) h) x h d room
 
--- ---- the seven rules in their order, for a block with header bytes h and data d
+-- ---- the seven rules in their order, for a block with header bytes h and data d: rule 2 compares the bytes, all else is judged by what
+-- they say
 unfoldable pub judgeOf : Terms → Exchange → List ℕ → List ℕ → List ℕ → Judging
 judgeOf c x h d room =
     cond (isMisrouted c (headerOf h)) (thrown x Misrouted room)
-    (cond (isDuplicate c x h) (thrown x Duplicate room) (newBlock (savedNow x h) h d room))
+    (cond (isDuplicate c x h) (thrown x Duplicate room) (newBlock (savedNow x h) (headerOf h) d room))

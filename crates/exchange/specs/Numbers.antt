@@ -8,20 +8,20 @@ use mathlib.Core.List.{List}
 use mathlib.Core.Logic.{_≢_}
 use lib.ListN.{length}
 use Rattle.settings.specs.declared.terms.Terms.{Terms}
-use Rattle.place.specs.declared.verdict.Verdict.{Verdict}
-use Rattle.place.specs.declared.verdict.Verdict.the-variants.{Sent, Answered, Declined, Other, Broken, NoReply, SendFailed}
-use Rattle.place.specs.declared.verdict.Standing.the-variants.{Free, Open, Given}
+use Rattle.place.specs.declared.Verdict.{Verdict}
+use Rattle.place.specs.declared.Verdict.the-variants.{Sent, Answered, Declined, Other, Broken, NoReply, SendFailed}
+use Rattle.place.specs.declared.Standing.the-variants.{Free, Open, Given}
 use Rattle.exchange.specs.Reading.{ownReading}
 use Rattle.exchange.specs.Request.{openOf}
 use Rattle.exchange.specs.Rules.{Fours}
 use Rattle.exchange.specs.History.{Call, block, tick, acknowledged, failed, primary, reply, free-own, free-incoming, called, track, atStart}
 use Rattle.exchange.specs.Watching.{watch}
-use Rattle.exchange.specs.declared.exchange.Exchange.{Exchange}
-use Rattle.exchange.specs.declared.reading.OwnReading.{OwnReading}
-use Rattle.exchange.specs.declared.reading.OwnReading.the-variants.{NoPlace, Place}
-use Rattle.exchange.specs.declared.request.Asked.{Asked}
-use Rattle.exchange.specs.declared.request.Asked.the-variants.{Taken, Refused}
-use Rattle.exchange.specs.declared.request.Primary.{Primary}
+use Rattle.exchange.specs.declared.Exchange.{Exchange}
+use Rattle.exchange.specs.declared.OwnReading.{OwnReading}
+use Rattle.exchange.specs.declared.OwnReading.the-variants.{NoPlace, Place}
+use Rattle.exchange.specs.declared.Asked.{Asked}
+use Rattle.exchange.specs.declared.Asked.the-variants.{Taken, Refused}
+use Rattle.exchange.specs.declared.Primary.{Primary}
 
 -- ---- what is read of an own place
 

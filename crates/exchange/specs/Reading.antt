@@ -4,19 +4,19 @@ use mathlib.Core.Bool.{cond, not}
 use Rattle.header.specs.declared.header.Header.{Header}
 use Rattle.place.specs.Own.{primaryOf as ownPrimary, ownStanding, ownIsFree, ownKept}
 use Rattle.place.specs.Incoming.{primaryOf as incomingPrimary, incomingLength, incomingIsFree, incomingIsOpen}
-use Rattle.place.specs.declared.incoming.End.{End}
-use Rattle.place.specs.declared.incoming.End.the-variants as end
-use Rattle.place.specs.declared.incoming.IncomingStage.{IncomingStage}
-use Rattle.place.specs.declared.incoming.IncomingStage.the-variants as stage
-use Rattle.place.specs.declared.incoming.Incoming.{Incoming}
+use Rattle.place.specs.declared.End.{End}
+use Rattle.place.specs.declared.End.the-variants as end
+use Rattle.place.specs.declared.IncomingStage.{IncomingStage}
+use Rattle.place.specs.declared.IncomingStage.the-variants as stage
+use Rattle.place.specs.declared.Incoming.{Incoming}
 use Rattle.exchange.specs.Exchange.{ownPlace, incomingPlace}
-use Rattle.exchange.specs.declared.exchange.Exchange.{Exchange}
-use Rattle.exchange.specs.declared.reading.OwnReading.{OwnReading}
-use Rattle.exchange.specs.declared.reading.OwnReading.the-variants as own
-use Rattle.exchange.specs.declared.reading.ReplyStage.{ReplyStage}
-use Rattle.exchange.specs.declared.reading.ReplyStage.the-variants.{NotOwed, Owed, OnItsWay, Sent, Failed}
-use Rattle.exchange.specs.declared.reading.IncomingReading.{IncomingReading}
-use Rattle.exchange.specs.declared.reading.IncomingReading.the-variants as incoming
+use Rattle.exchange.specs.declared.Exchange.{Exchange}
+use Rattle.exchange.specs.declared.OwnReading.{OwnReading}
+use Rattle.exchange.specs.declared.OwnReading.the-variants as own
+use Rattle.exchange.specs.declared.ReplyStage.{ReplyStage}
+use Rattle.exchange.specs.declared.ReplyStage.the-variants.{NotOwed, Owed, OnItsWay, Sent, Failed}
+use Rattle.exchange.specs.declared.IncomingReading.{IncomingReading}
+use Rattle.exchange.specs.declared.IncomingReading.the-variants as incoming
 
 -- nothing is read of a free place, or of one above 3
 unfoldable pub ownReading : Exchange → ℕ → OwnReading

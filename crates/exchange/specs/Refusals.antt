@@ -13,21 +13,21 @@ use Rattle.room.specs.Room.{keptIn}
 use Rattle.room.specs.declared.Message.the-variants as message
 use Rattle.place.specs.Own.{ownStanding}
 use Rattle.place.specs.Incoming.{primaryOf}
-use Rattle.place.specs.declared.verdict.Standing.the-variants as standing
-use Rattle.place.specs.declared.own.OwnStage.the-variants as own
-use Rattle.place.specs.declared.incoming.End.{End}
-use Rattle.place.specs.declared.incoming.IncomingStage.the-variants as incoming
+use Rattle.place.specs.declared.Standing.the-variants as standing
+use Rattle.place.specs.declared.OwnStage.the-variants as own
+use Rattle.place.specs.declared.End.{End}
+use Rattle.place.specs.declared.IncomingStage.the-variants as incoming
 use Rattle.table.specs.Number.{nextNumber}
 use Rattle.exchange.specs.Exchange.{ownPlace, incomingPlace}
 use Rattle.exchange.specs.Send.{outgoingOf}
 use Rattle.exchange.specs.Request.{askedNumber, openOf, replyOf, releaseOwn, releaseIncoming}
 use Rattle.exchange.specs.Rules.{Fours, Somewhere, LowestAt}
-use Rattle.exchange.specs.declared.exchange.Sending.the-variants as sending
-use Rattle.exchange.specs.declared.exchange.Exchange.{Exchange}
-use Rattle.exchange.specs.declared.request.Asked.the-variants.{Taken}
-use Rattle.exchange.specs.declared.request.Primary.{Primary}
-use Rattle.exchange.specs.declared.request.Requested.{Requested}
-use Rattle.exchange.specs.declared.send.Outgoing.the-variants as outgoing
+use Rattle.exchange.specs.declared.Sending.the-variants as sending
+use Rattle.exchange.specs.declared.Exchange.{Exchange}
+use Rattle.exchange.specs.declared.Asked.the-variants.{Taken}
+use Rattle.exchange.specs.declared.Primary.{Primary}
+use Rattle.exchange.specs.declared.Requested.{Requested}
+use Rattle.exchange.specs.declared.Outgoing.the-variants as outgoing
 
 -- ---- the rows
 

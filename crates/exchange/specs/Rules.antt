@@ -14,24 +14,24 @@ use Rattle.room.specs.declared.Message.the-variants as message
 use Rattle.place.specs.Message.{Routed, StartsMessage, Continues, LacksData}
 use Rattle.place.specs.Own.{primaryOf as ownPrimary, stageAt as ownStageAt, replyOf, replyHeader, ended, ownKept, verdictOf}
 use Rattle.place.specs.Incoming.{primaryOf as incomingPrimary, stageAt as incomingStageAt, incomingLength}
-use Rattle.place.specs.declared.verdict.Verdict.the-variants.{Broken}
-use Rattle.place.specs.declared.own.Reply.{Reply}
-use Rattle.place.specs.declared.own.OwnStage.the-variants as own
-use Rattle.place.specs.declared.own.Own.{Own}
-use Rattle.place.specs.declared.incoming.IncomingStage.the-variants as incoming
-use Rattle.place.specs.declared.incoming.Incoming.{Incoming}
+use Rattle.place.specs.declared.Verdict.the-variants.{Broken}
+use Rattle.place.specs.declared.Reply.{Reply}
+use Rattle.place.specs.declared.OwnStage.the-variants as own
+use Rattle.place.specs.declared.Own.{Own}
+use Rattle.place.specs.declared.IncomingStage.the-variants as incoming
+use Rattle.place.specs.declared.Incoming.{Incoming}
 use Rattle.table.specs.Own.{ownAt, replyFor}
 use Rattle.table.specs.Incoming.{incomingAt, messageFor}
 use Rattle.table.specs.Theorems.{Alike}
-use Rattle.table.specs.declared.find.Found.{Found}
-use Rattle.table.specs.declared.find.Found.the-variants.{At, Nowhere}
+use Rattle.table.specs.declared.Found.{Found}
+use Rattle.table.specs.declared.Found.the-variants.{At, Nowhere}
 use Rattle.exchange.specs.Note.{noteNumber}
 use Rattle.exchange.specs.Flags.{noFlags, verdictFlag, incomingFlags}
-use Rattle.exchange.specs.declared.flags.Flags.{Flags}
+use Rattle.exchange.specs.declared.Flags.{Flags}
 use Rattle.exchange.specs.Exchange.{ownPlace, incomingPlace, putOwn, putIncoming, savedNow}
 use Rattle.exchange.specs.Judge.{Judging, judging, judgeOf}
-use Rattle.exchange.specs.declared.note.Note.the-variants.{Kept}
-use Rattle.exchange.specs.declared.exchange.Exchange.{Exchange}
+use Rattle.exchange.specs.declared.Note.the-variants.{Kept}
+use Rattle.exchange.specs.declared.Exchange.{Exchange}
 
 -- ---- four places
 
@@ -209,14 +209,14 @@ pub record NewPrimary (c : Terms) (x : Exchange) (h d : List ℕ) : Type 0 where
   pub fits : length d ≤ 4096
 
 -- the place with the first block of a primary, n data bytes: complete with E = 1; else T4 runs from 0 and the next number is awaited
-abbrev pub begunWith : List ℕ → ℕ → Incoming
-begunWith h n = record { header = h; stage = cond (headerOf h .e) (incoming.Complete n) (incoming.Open 0 (headerOf h .number + 1) n) }
+abbrev pub begunWith : Header → ℕ → Incoming
+begunWith h n = record { header = h; stage = cond (h .e) (incoming.Complete n) (incoming.Open 0 (h .number + 1) n) }
 
 -- all that it leaves in place p: `gone` is whether an open message is thrown out, which raises a flag, as its completion does
 abbrev pub begunIn : Exchange → ℕ → List ℕ → Bool → List ℕ → List ℕ → Judging
 begunIn x p h gone d room =
     judging
-    (record { exchange = putIncoming (savedNow x h) p (begunWith h (length d)); note = Kept; flags = incomingFlags p (headerOf h .e) gone })
+    (record { exchange = putIncoming (savedNow x h) p (begunWith (headerOf h) (length d)); note = Kept; flags = incomingFlags p (headerOf h .e) gone })
     (keptIn room (message.Incoming p) 0 d)
 
 pub record Takes (c : Terms) (x : Exchange) (h d room : List ℕ) : Type 0 where

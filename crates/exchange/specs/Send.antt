@@ -4,16 +4,16 @@ use mathlib.Core.Bool.{false, not}
 use Rattle.header.specs.declared.header.Header.{Header}
 use Rattle.place.specs.Own.{primaryOf as ownPrimary, ownSent, ownFailed}
 use Rattle.place.specs.Incoming.{primaryOf as incomingPrimary, incomingSent, incomingFailed}
-use Rattle.place.specs.declared.own.Own.{Own}
-use Rattle.place.specs.declared.incoming.Incoming.{Incoming}
+use Rattle.place.specs.declared.Own.{Own}
+use Rattle.place.specs.declared.Incoming.{Incoming}
 use Rattle.exchange.specs.Flags.{noFlags, verdictFlag}
 use Rattle.exchange.specs.Exchange.{ownPlace, incomingPlace, gotVerdict, putOwn, putIncoming, withSending}
-use Rattle.exchange.specs.declared.exchange.Sending.{Sending}
-use Rattle.exchange.specs.declared.exchange.Sending.the-variants.{Nothing, Primary, Reply}
-use Rattle.exchange.specs.declared.exchange.Exchange.{Exchange}
-use Rattle.exchange.specs.declared.tick.Told.{Told}
-use Rattle.exchange.specs.declared.send.Outgoing.{Outgoing}
-use Rattle.exchange.specs.declared.send.Outgoing.the-variants as outgoing
+use Rattle.exchange.specs.declared.Sending.{Sending}
+use Rattle.exchange.specs.declared.Sending.the-variants.{Nothing, Primary, Reply}
+use Rattle.exchange.specs.declared.Exchange.{Exchange}
+use Rattle.exchange.specs.declared.Told.{Told}
+use Rattle.exchange.specs.declared.Outgoing.{Outgoing}
+use Rattle.exchange.specs.declared.Outgoing.the-variants as outgoing
 
 -- "A reply of ours has W = 0"; "the complement of the R-bit" and the same system bytes (E4 7.3.1, 6.8.2); the stream is the primary's
 abbrev pub replyTo : Header → ℕ → Header

@@ -2,8 +2,8 @@
 use mathlib.Core.Path.{_≡_}
 use Rattle.exchange.specs.Note.{noteNumber}
 use Rattle.exchange.specs.Request.{refusalNumber}
-use Rattle.exchange.specs.declared.note.Note.the-variants as note
-use Rattle.exchange.specs.declared.request.Refusal.the-variants as refusal
+use Rattle.exchange.specs.declared.Note.the-variants as note
+use Rattle.exchange.specs.declared.Refusal.the-variants as refusal
 
 -- "A block that goes up is judged in this order"
 pub record NoteNumbers : Type 0 where

@@ -17,12 +17,12 @@ use Rattle.place.specs.OwnHistory.{Track as OwnTrack}
 use Rattle.place.specs.IncomingTheorems.{Reached as IncomingReached}
 use Rattle.place.specs.IncomingHistory.{Track as IncomingTrack}
 use Rattle.place.specs.Incoming.{incomingLength, incomingIsFree, incomingIsOpen, incomingIsComplete}
-use Rattle.place.specs.declared.verdict.Verdict.{Verdict}
-use Rattle.place.specs.declared.verdict.Verdict.the-variants.{Sent, Answered, Declined, Other, Broken, NoReply, SendFailed}
-use Rattle.place.specs.declared.own.OwnStage.{OwnStage}
-use Rattle.place.specs.declared.own.OwnStage.the-variants as stage
-use Rattle.place.specs.declared.own.Own.{Own}
-use Rattle.place.specs.declared.incoming.Incoming.{Incoming}
+use Rattle.place.specs.declared.Verdict.{Verdict}
+use Rattle.place.specs.declared.Verdict.the-variants.{Sent, Answered, Declined, Other, Broken, NoReply, SendFailed}
+use Rattle.place.specs.declared.OwnStage.{OwnStage}
+use Rattle.place.specs.declared.OwnStage.the-variants as stage
+use Rattle.place.specs.declared.Own.{Own}
+use Rattle.place.specs.declared.Incoming.{Incoming}
 use Rattle.exchange.specs.Exchange.{ownPlace, incomingPlace}
 use Rattle.exchange.specs.Tick.{tickOf}
 use Rattle.exchange.specs.Send.{sentOf, failedOf}
@@ -30,10 +30,10 @@ use Rattle.exchange.specs.Judge.{judgeOf}
 use Rattle.exchange.specs.Rules.{LowestAt, AlikeAt, NewPrimary}
 use Rattle.exchange.specs.Range.{exchangeInRange}
 use Rattle.exchange.specs.History.{Call, Track, track, atStart}
-use Rattle.exchange.specs.declared.flags.Flags.{Flags}
-use Rattle.exchange.specs.declared.exchange.Exchange.{Exchange}
-use Rattle.exchange.specs.declared.exchange.Sending.{Sending}
-use Rattle.exchange.specs.declared.exchange.Sending.the-variants as sending
+use Rattle.exchange.specs.declared.Flags.{Flags}
+use Rattle.exchange.specs.declared.Exchange.{Exchange}
+use Rattle.exchange.specs.declared.Sending.{Sending}
+use Rattle.exchange.specs.declared.Sending.the-variants as sending
 
 -- what any calls from a fresh start leave, with a room of 36,864 bytes
 pub record Reached (c : Terms) (t : Track) : Type 0 where

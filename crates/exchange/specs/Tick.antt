@@ -6,16 +6,16 @@ use mathlib.Core.List.{List, [], _∷_}
 use lib.ListN.{length}
 use Rattle.settings.specs.declared.terms.Terms.{Terms}
 use Rattle.place.specs.Incoming.{incomingIsFree, incomingIsOpen}
-use Rattle.place.specs.declared.own.OwnStage.{OwnStage}
-use Rattle.place.specs.declared.own.OwnStage.the-variants as own
-use Rattle.place.specs.declared.own.Own.{Own}
-use Rattle.place.specs.declared.incoming.Incoming.{Incoming}
+use Rattle.place.specs.declared.OwnStage.{OwnStage}
+use Rattle.place.specs.declared.OwnStage.the-variants as own
+use Rattle.place.specs.declared.Own.{Own}
+use Rattle.place.specs.declared.Incoming.{Incoming}
 use Rattle.table.specs.Own.{ownAt, tickedOwn}
 use Rattle.table.specs.Incoming.{incomingAt, tickedIncoming}
 use Rattle.exchange.specs.Flags.{noMarks, noFlags}
 use Rattle.exchange.specs.Exchange.{gotVerdict, latestAfter}
-use Rattle.exchange.specs.declared.exchange.Exchange.{Exchange}
-use Rattle.exchange.specs.declared.tick.Told.{Told}
+use Rattle.exchange.specs.declared.Exchange.{Exchange}
+use Rattle.exchange.specs.declared.Told.{Told}
 
 -- which own places got their verdict
 abbrev pub gotMarks : List Own → List Own → List Bool

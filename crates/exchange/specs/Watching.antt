@@ -18,20 +18,20 @@ use Rattle.place.specs.IncomingTheorems.{Reached as IncomingReached}
 use Rattle.table.specs.Own.{replyFor}
 use Rattle.table.specs.Incoming.{messageFor, openAlike, freeIncoming}
 use Rattle.table.specs.Number.{nextNumber}
-use Rattle.table.specs.declared.find.Found.{Found}
-use Rattle.table.specs.declared.find.Found.the-variants.{At, Nowhere}
+use Rattle.table.specs.declared.Found.{Found}
+use Rattle.table.specs.declared.Found.the-variants.{At, Nowhere}
 use Rattle.exchange.specs.Exchange.{ownPlace, incomingPlace}
 use Rattle.exchange.specs.Judge.{judgeOf}
 use Rattle.exchange.specs.Request.{primaryHeader, openOf, releaseOwn, releaseIncoming}
 use Rattle.exchange.specs.History.{Call, block, tick, acknowledged, failed, primary, reply, free-own, free-incoming, called, Track, next, track, atStart}
-use Rattle.exchange.specs.declared.note.Note.{Note}
-use Rattle.exchange.specs.declared.note.Note.the-variants.{Kept, Misrouted, Duplicate, Stray, NoPlace, TooLong, Empty}
-use Rattle.exchange.specs.declared.exchange.Exchange.{Exchange}
-use Rattle.exchange.specs.declared.exchange.Sending.{Sending}
-use Rattle.exchange.specs.declared.exchange.Sending.the-variants as sending
-use Rattle.exchange.specs.declared.request.Asked.{Asked}
-use Rattle.exchange.specs.declared.request.Asked.the-variants.{Taken, Refused}
-use Rattle.exchange.specs.declared.request.Primary.{Primary}
+use Rattle.exchange.specs.declared.Note.{Note}
+use Rattle.exchange.specs.declared.Note.the-variants.{Kept, Misrouted, Duplicate, Stray, NoPlace, TooLong, Empty}
+use Rattle.exchange.specs.declared.Exchange.{Exchange}
+use Rattle.exchange.specs.declared.Sending.{Sending}
+use Rattle.exchange.specs.declared.Sending.the-variants as sending
+use Rattle.exchange.specs.declared.Asked.{Asked}
+use Rattle.exchange.specs.declared.Asked.the-variants.{Taken, Refused}
+use Rattle.exchange.specs.declared.Primary.{Primary}
 
 -- ---- what a call tells of place p
 

@@ -1,32 +1,164 @@
 // Transactions (E4 6.8, 7.3, 7.4; 01, "Messages"): which message a block belongs to, what becomes of it, and how each message of
-// ours ends. The line is not known here: this crate is told that the message being sent was acknowledged or failed, is handed the
-// blocks that went up, ticks and requests, and answers with the next state, a note or a refusal, and flags.
+// ours ends. The line is not known here: the transactions are told that the message being sent was acknowledged or failed, are
+// handed the blocks that went up, ticks and requests, and answer with the next state, a note or a refusal, and flags.
 //
-// The state is a value, and no public function has a `requires`: each answers for every input, and its `ensures` is one equation
-// with a definition of `specs/` for all it answers and every byte it is lent.
-mod exchange;
-mod flags;
-mod judge;
-mod note;
-mod range;
-mod reading;
-mod request;
-mod send;
-mod tick;
+// The model: types here, definitions and statements in `specs/`, and the proofs about them. The functions are crate `clerk`.
+use header::Header;
+use place::Incoming;
+use place::Own;
+use place::Reply;
+use place::Standing;
 
-pub use exchange::Exchange;
-pub use exchange::Numbers;
-pub use exchange::Saved;
-pub use exchange::Sending;
-pub use flags::Flags;
-pub use judge::Judged;
-pub use note::Note;
-pub use reading::IncomingReading;
-pub use reading::OwnReading;
-pub use reading::ReplyStage;
-pub use request::Asked;
-pub use request::Primary;
-pub use request::Refusal;
-pub use request::Requested;
-pub use send::Outgoing;
-pub use tick::Told;
+// The state: four own places, four incoming places, the saved header, the transaction numbers, and what is being sent.
+pub struct Exchange {
+    pub own: [Own; 4],
+    pub incoming: [Incoming; 4],
+    pub saved: Saved,
+    pub numbers: Numbers,
+    pub sending: Sending,
+}
+
+// The header of the block that came last and was no duplicate (E4 7.4.2), if any is saved; "none at a start".
+pub struct Saved {
+    pub any: bool,
+    pub header: [u8; 10],
+}
+
+// Transaction numbers: the last one given, and that of the latest own transaction to get a verdict. 0 is no number.
+pub struct Numbers {
+    pub last: u16,
+    pub latest: u16,
+}
+
+// The one message that is being sent or held: whose it is, and how many data bytes it has.
+pub enum Sending {
+    Nothing,
+    Primary {
+        place: usize,
+        length: u16,
+    },
+    Reply {
+        place: usize,
+        function: u8,
+        length: u16,
+    },
+}
+
+// The message to be cut into blocks: its header, in which block number and E are 0, and how many data bytes lie in the send area.
+pub enum Outgoing {
+    Nothing,
+    Message { header: Header, length: u16 },
+}
+
+// What judging leaves: the next state, the note, and flags.
+pub struct Judged {
+    pub exchange: Exchange,
+    pub note: Note,
+    pub flags: Flags,
+}
+
+// What a block that was judged comes to, with each note's number in 01.
+pub enum Note {
+    // 21: kept.
+    Kept,
+    // 22: R-bit or device ID not this link's incoming one.
+    Misrouted,
+    // 23: the header is the saved one.
+    Duplicate,
+    // 24: of no message that is open or awaited, and not the first block of a primary.
+    Stray,
+    // 25: all four incoming places are in use.
+    NoPlace,
+    // 26: total data above 4,096.
+    TooLong,
+    // 27: no data where there must be some.
+    Empty,
+}
+
+// "flags for places that got a verdict, completed or were dropped" (01, "Refusal numbers and notes"), one for each place.
+pub struct Flags {
+    // Own places that got their verdict in this call.
+    pub verdicts: [bool; 4],
+    // Incoming places whose message became complete.
+    pub completed: [bool; 4],
+    // Incoming places whose message was broken or thrown out.
+    pub dropped: [bool; 4],
+}
+
+// What a tick, or the end of a send, leaves: the next state, and flags.
+pub struct Told {
+    pub exchange: Exchange,
+    pub flags: Flags,
+}
+
+// A primary that is asked for.
+pub struct Primary {
+    // The caller's source ID, the upper half of the system bytes.
+    pub source: u16,
+    pub w: bool,
+    pub stream: u8,
+    pub function: u8,
+}
+
+// What a request leaves.
+pub struct Requested {
+    pub exchange: Exchange,
+    pub asked: Asked,
+}
+
+// What a request comes to: taken, for this place, or refused.
+pub enum Asked {
+    Taken(usize),
+    Refused(Refusal),
+}
+
+// Refusals 5 to 11 of 01's table.
+pub enum Refusal {
+    // 5: "stream above 127; function even in a primary; in a reply, neither primary + 1 nor 0".
+    Message,
+    // 6: "data above 4,096 bytes".
+    DataLong,
+    // 7: "a message is being sent or held".
+    Sending,
+    // 8: "all 4 own places in use".
+    NoPlace,
+    // 9: "place above 3 or free; ..".
+    Place,
+    // 10: "reply to a primary with W = 0".
+    NotWanted,
+    // 11: "a reply to this primary was accepted before, even if it failed".
+    Replied,
+}
+
+// An own place: the primary, how it stands, and what is kept of its reply.
+pub enum OwnReading {
+    // "place above 3 or free"
+    NoPlace,
+    Place {
+        primary: Header,
+        standing: Standing,
+        reply: Reply,
+    },
+}
+
+// An incoming place: the header of its first block, how many data bytes are kept, whether the message is complete, and our reply.
+pub enum IncomingReading {
+    // "place above 3 or free"
+    NoPlace,
+    Place {
+        primary: Header,
+        length: u16,
+        complete: bool,
+        reply: ReplyStage,
+    },
+}
+
+// Our reply to an incoming message.
+pub enum ReplyStage {
+    // None is to be given, or not yet: W = 0, or the message is not complete.
+    NotOwed,
+    Owed,
+    OnItsWay,
+    Sent,
+    Failed,
+}

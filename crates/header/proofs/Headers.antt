@@ -4,14 +4,14 @@ use mathlib.Core.Path.{_≡_, refl, sym, _∙_}
 use mathlib.Core.Bool.{Bool, true, false}
 use mathlib.Core.List.{List, [], _∷_}
 use native.Mathlib.Omega.{arith}
-use native.Mathlib.Nat.{div-div-eq-div-mul}
 use lib.Dec.{leb}
 use lib.ListN.{length, take, getD}
 use lib.Seq.{take-all, take-suc}
 use borrow.Author.Tests.{le-leb, lt-leb, leb-true, leb-false}
 use Rattle.wire.proofs.Choice.{either}
-use Rattle.wire.specs.Bytes.{pairOf}
-use Rattle.header.specs.Header.{topBit, quadOf, firstTen, headerBytes, headerOf}
+use Rattle.wire.specs.Bytes.{pairOf, quadOf, quartersOf}
+use Rattle.wire.proofs.Numbers.{quad-back, four-bytes-and-back}
+use Rattle.header.specs.Header.{topBit, firstTen, headerBytes, headerOf}
 use Rattle.header.specs.declared.header.Header.{Header}
 use Rattle.header.specs.Theorems.{TenBytesAndBack, TenBytesInRange, HeaderAndBack, NumberedKeeps}
 
@@ -24,10 +24,6 @@ bit-back false x = lt-leb 128 (0 + x % 128) (omega arith)
 top-apart : (b : Bool) → topBit b % 128 ≡ 0
 top-apart true = refl
 top-apart false = refl
-
--- a 32-bit number is read back from its four bytes
-quad-back : (x : ℕ) → x < 4294967296 → quadOf (x / 16777216 % 256) (x / 65536 % 256) (x / 256 % 256) (x % 256) ≡ x
-quad-back x h = rw (← div-div-eq-div-mul x 65536 256, ← div-div-eq-div-mul x 256 256) (omega arith)
 
 pub header-and-back : HeaderAndBack
 unfolding headerOf headerBytes
@@ -97,18 +93,15 @@ ten-bytes-and-back b e f = bytes ∙ sym (ten-are b e) ∙ take-all 10 b (omega 
     lower : (x i : ℕ) → pairOf x (at i) % 256 ≡ at i
     lower x i = omega (arith, f .at i)
 
-    system : ℕ
-    system = quadOf (at 6) (at 7) (at 8) (at 9)
-
-    quarter : (system / 16777216 % 256 ≡ at 6) × (system / 65536 % 256 ≡ at 7) × (system / 256 % 256 ≡ at 8)
-    quarter = omega (arith, f .at 6, f .at 7, f .at 8, f .at 9, div-div-eq-div-mul system 256 256, div-div-eq-div-mul system 65536 256)
+    system : quartersOf (quadOf (at 6) (at 7) (at 8) (at 9)) ≡ at 6 ∷ at 7 ∷ at 8 ∷ at 9 ∷ []
+    system = four-bytes-and-back (at 6) (at 7) (at 8) (at 9) (f .at 6) (f .at 7) (f .at 8) (f .at 9)
 
     bytes : headerBytes (headerOf b) ≡ firstTen b
     bytes = λ k.
         upper 0 1 k ∷ lower (at 0 % 128) 1 k
         ∷ stream k ∷ at 3
         ∷ upper 4 5 k ∷ lower (at 4 % 128) 5 k
-        ∷ quarter .0 k ∷ quarter .1 k ∷ quarter .2 k ∷ lower (pairOf (pairOf (at 6) (at 7)) (at 8)) 9 k ∷ []
+        ∷ system k
       where
         stream : topBit (leb 128 (at 2)) + at 2 % 128 % 128 ≡ at 2
         stream = omega (arith, byte-back (at 2) (f .at 2))

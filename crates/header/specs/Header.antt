@@ -4,7 +4,7 @@ use mathlib.Core.Bool.{Bool, true, false}
 use mathlib.Core.List.{List, [], _∷_}
 use lib.Dec.{leb}
 use lib.ListN.{getD}
-use Rattle.wire.specs.Bytes.{pairOf}
+use Rattle.wire.specs.Bytes.{pairOf, quadOf, quartersOf}
 use Rattle.header.specs.declared.header.Header.{Header}
 
 -- a header whose fields have no more than their bits: 15 for the device ID and the block number, 7 for the stream,
@@ -21,10 +21,6 @@ abbrev pub topBit : Bool → ℕ
 topBit true = 128
 topBit false = 0
 
--- four bytes as one number, the highest first
-abbrev pub quadOf : ℕ → ℕ → ℕ → ℕ → ℕ
-quadOf a b c d = pairOf (pairOf (pairOf a b) c) d
-
 -- "R and upper device ID; lower device ID; W and stream (7 bits); function; E and upper block number; lower block
 -- number; four system bytes"
 unfoldable pub headerBytes : Header → List ℕ
@@ -32,7 +28,7 @@ headerBytes h =
     (topBit (h .r) + h .device / 256 % 128) ∷ (h .device % 256)
     ∷ (topBit (h .w) + h .stream % 128) ∷ h .function
     ∷ (topBit (h .e) + h .number / 256 % 128) ∷ (h .number % 256)
-    ∷ (h .system / 16777216 % 256) ∷ (h .system / 65536 % 256) ∷ (h .system / 256 % 256) ∷ (h .system % 256) ∷ []
+    ∷ quartersOf (h .system)
 
 -- the first ten of some bytes
 abbrev pub firstTen : List ℕ → List ℕ

@@ -1,8 +1,10 @@
 // The ten header bytes (E4 6) and what they say.
 ghost use mathlib.Core.Path.{_≡_};
 ghost use Prim.Native.Nat.{_≤_};
-ghost use Rattle.header.specs.Header.{headerBytes, headerOf, numberedOf, quadOf, topBit};
+ghost use Rattle.header.specs.Header.{headerBytes, headerOf, numberedOf, topBit};
 use wire::pair;
+use wire::quad;
+use wire::quarters;
 
 pub struct Header {
     // R-bit (E4 6.2): set in a message to the host.
@@ -29,26 +31,13 @@ fn top_bit(on: bool) -> u8
     if on { 128 } else { 0 }
 }
 
-// A byte as a wider number.
-fn wide(byte: u8) -> u32
-    ensures { λ r. ⌜ r ≡ byte ⌝ }
-{
-    byte as u32
-}
-
-// Four bytes as one number, the highest first.
-fn quad(a: u8, b: u8, c: u8, d: u8) -> u32
-    ensures { λ r. ⌜ r ≡ quadOf a b c d ⌝ }
-{
-    ((wide(a) * 256 + wide(b)) * 256 + wide(c)) * 256 + wide(d)
-}
-
 impl Header {
     // The ten bytes. A device ID and a block number have 15 bits there, a stream 7: what a field has above them
     // does not go out.
     pub fn bytes(self) -> [u8; 10]
         ensures { λ r. ⌜ r ≡ headerBytes self ⌝ }
     {
+        let system = quarters(self.system);
         [
             top_bit(self.r) + (self.device / 256 % 128) as u8,
             (self.device % 256) as u8,
@@ -56,10 +45,10 @@ impl Header {
             self.function,
             top_bit(self.e) + (self.number / 256 % 128) as u8,
             (self.number % 256) as u8,
-            (self.system / 16777216 % 256) as u8,
-            (self.system / 65536 % 256) as u8,
-            (self.system / 256 % 256) as u8,
-            (self.system % 256) as u8,
+            system[0],
+            system[1],
+            system[2],
+            system[3],
         ]
     }
 
@@ -90,7 +79,7 @@ impl Header {
             stream: self.stream,
             function: self.function,
             e: last,
-            number: number,
+            number,
             system: self.system,
         }
     }

@@ -32,22 +32,22 @@ use Rattle.exchange.proofs.Cases.{by-open, by-reply}
 use Rattle.exchange.proofs.Leaving.{judge-leaves}
 use Rattle.exchange.proofs.Holding.{SendHolds}
 use Rattle.exchange.proofs.Areas.{always}
-use Rattle.exchange.specs.declared.exchange.Sending.{Sending}
-use Rattle.exchange.specs.declared.exchange.Sending.the-variants as sending
-use Rattle.exchange.specs.declared.exchange.Exchange.{Exchange}
-use Rattle.exchange.specs.declared.send.Outgoing.{Outgoing}
-use Rattle.exchange.specs.declared.send.Outgoing.the-variants as outgoing
-use Rattle.exchange.specs.declared.request.Asked.{Asked}
-use Rattle.exchange.specs.declared.request.Asked.the-variants as asked
-use Rattle.exchange.specs.declared.request.Primary.{Primary}
-use Rattle.exchange.specs.declared.request.Requested.{Requested}
+use Rattle.exchange.specs.declared.Sending.{Sending}
+use Rattle.exchange.specs.declared.Sending.the-variants as sending
+use Rattle.exchange.specs.declared.Exchange.{Exchange}
+use Rattle.exchange.specs.declared.Outgoing.{Outgoing}
+use Rattle.exchange.specs.declared.Outgoing.the-variants as outgoing
+use Rattle.exchange.specs.declared.Asked.{Asked}
+use Rattle.exchange.specs.declared.Asked.the-variants as asked
+use Rattle.exchange.specs.declared.Primary.{Primary}
+use Rattle.exchange.specs.declared.Requested.{Requested}
 use Rattle.link.specs.State.{withLine}
 use Rattle.link.specs.Run.{leaves, nextIn, told, bytesBy, blockIn, hears, heardBy, tickTold, places, drainedTurn}
 use Rattle.link.specs.Call.{asksBy, freesBy}
 use Rattle.link.specs.History.{Call, byte, tick, drained, primary, reply, free-own, free-incoming, called, hearing, lentRoom, Track, lineTrack, exchangeTrack, limitsIn, termsIn}
 use Rattle.link.specs.Inside.{Reached, busy, Agrees, WholeBlock}
-use Rattle.link.specs.declared.answer.Answer.{Answer}
-use Rattle.link.specs.declared.link.Link.{Link}
+use Rattle.link.specs.declared.Answer.{Answer}
+use Rattle.link.specs.declared.Link.{Link}
 use Rattle.link.proofs.Cases.{by-gate, by-own, by-incoming, by-sent}
 use Rattle.link.proofs.Reaching.{by-calls, line-inside}
 use Rattle.link.proofs.Placing.{exchange-inside}

@@ -19,8 +19,8 @@ use Rattle.place.specs.IncomingHistory as incoming
 use Rattle.table.specs.Own.{replyFor}
 use Rattle.table.specs.Incoming.{messageFor, openAlike, freeIncoming}
 use Rattle.table.proofs.Finding.{message-lowest, open-alike-lowest, free-incoming-lowest}
-use Rattle.table.specs.declared.find.Found.{Found}
-use Rattle.table.specs.declared.find.Found.the-variants.{At, Nowhere}
+use Rattle.table.specs.declared.Found.{Found}
+use Rattle.table.specs.declared.Found.the-variants.{At, Nowhere}
 use Rattle.exchange.specs.Exchange.{incomingPlace}
 use Rattle.exchange.specs.Judge.{judgeOf}
 use Rattle.exchange.specs.Request.{releaseIncoming}
@@ -28,9 +28,9 @@ use Rattle.exchange.specs.Rules.{Fours, LowestAt, OfMessage, ReplyHere, Message
 use Rattle.exchange.specs.History as exchange
 use Rattle.exchange.specs.Watching.{foundAt, takenAt, toldBy, takenBy, seesBlock, freedSeen, incomingSees, watch}
 use Rattle.exchange.specs.Note.{noteNumber as blockNote}
-use Rattle.exchange.specs.declared.note.Note.{Note}
-use Rattle.exchange.specs.declared.note.Note.the-variants.{Kept, Misrouted, Duplicate, Stray, NoPlace, TooLong, Empty}
-use Rattle.exchange.specs.declared.exchange.Exchange.{Exchange}
+use Rattle.exchange.specs.declared.Note.{Note}
+use Rattle.exchange.specs.declared.Note.the-variants.{Kept, Misrouted, Duplicate, Stray, NoPlace, TooLong, Empty}
+use Rattle.exchange.specs.declared.Exchange.{Exchange}
 use Rattle.exchange.proofs.Cases.{by-found}
 use Rattle.exchange.proofs.Finding.{found, lowest}
 use Rattle.exchange.proofs.Judging as test

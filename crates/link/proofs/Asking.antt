@@ -19,17 +19,17 @@ use Rattle.table.specs.Own.{freeOwn}
 use Rattle.exchange.specs.Exchange.{freshExchange}
 use Rattle.exchange.specs.Flags.{noFlags}
 use Rattle.exchange.specs.Request.{Asking, asking, badPrimary, dataLong, claimedAt, openFree, openOf}
-use Rattle.exchange.specs.declared.exchange.Exchange.{Exchange}
-use Rattle.exchange.specs.declared.request.Asked.the-variants as asked
-use Rattle.exchange.specs.declared.request.Primary.{Primary}
+use Rattle.exchange.specs.declared.Exchange.{Exchange}
+use Rattle.exchange.specs.declared.Asked.the-variants as asked
+use Rattle.exchange.specs.declared.Primary.{Primary}
 use Rattle.link.specs.Run.{Left, Turn, turn, leaves}
 use Rattle.link.specs.Call.{through, gated, asks}
 use Rattle.link.specs.SameMessage.{endOf, saidBy, Sendable}
-use Rattle.link.specs.declared.setup.Settings.{Settings}
-use Rattle.link.specs.declared.answer.Outcome.the-variants.{Taken}
-use Rattle.link.specs.declared.answer.Note.the-variants.{Nothing}
-use Rattle.link.specs.declared.gate.Gate.{Gate}
-use Rattle.link.specs.declared.link.Link.{Link}
+use Rattle.link.specs.declared.Settings.{Settings}
+use Rattle.link.specs.declared.Outcome.the-variants.{Taken}
+use Rattle.link.specs.declared.Note.the-variants.{Nothing}
+use Rattle.link.specs.declared.Gate.{Gate}
+use Rattle.link.specs.declared.Link.{Link}
 use Rattle.link.proofs.Calling.{said, unit, Sound, open-gate, said-by-turn}
 
 -- ---- the unit

@@ -11,7 +11,7 @@ use Rattle.link.specs.Call.{gated, releaseOwnCall, releaseIncomingCall}
 use Rattle.link.specs.History.{Call, byte, tick, drained, primary, reply, free-own, free-incoming, called, Room, kept, other, Made, onExchange, unlessRefused, Track, exchangeTrack, termsIn, next, track}
 use Rattle.link.specs.Inside.{ComesBack, Back}
 use Rattle.link.specs.Verdicts.{ExchangeBack}
-use Rattle.link.specs.declared.link.Link.{Link}
+use Rattle.link.specs.declared.Link.{Link}
 use Rattle.link.proofs.Cases.{by-gate, open-lent}
 use Rattle.link.proofs.Telling.{exchange-goes}
 use Rattle.link.proofs.Reaching.{start}

@@ -23,7 +23,7 @@ use Rattle.room.specs.Room.{front}
 use Rattle.room.specs.declared.Message.the-variants.{Send}
 use Rattle.room.proofs.Reading.{bytes-read}
 use Rattle.exchange.specs.Assembly.{dataIn}
-use Rattle.exchange.specs.declared.send.Outgoing.the-variants.{Message}
+use Rattle.exchange.specs.declared.Outgoing.the-variants.{Message}
 use Rattle.link.specs.Run.{bytesBy, blockIn}
 
 -- ---- bytes

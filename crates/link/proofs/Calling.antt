@@ -12,16 +12,16 @@ use Rattle.line.specs.Line.{lineAt, Heard, byteOf}
 use Rattle.line.specs.Range.{phaseInRange}
 use Rattle.line.specs.declared.phase.Phase.{Phase}
 use Rattle.exchange.specs.Range.{exchangeInRange}
-use Rattle.exchange.specs.declared.exchange.Exchange.{Exchange}
+use Rattle.exchange.specs.declared.Exchange.{Exchange}
 use Rattle.link.specs.Setup.{settingsInRange}
 use Rattle.link.specs.State.{linkInRange, outputShort, roomFits, gateOf}
 use Rattle.link.specs.Run.{Turn, leaves, byteBy, drainedTurn}
 use Rattle.link.specs.Call.{through, gated}
 use Rattle.link.specs.SameMessage.{End, endOf, Said, noting, noted, saidBy, hears, drains}
-use Rattle.link.specs.declared.setup.Settings.{Settings}
-use Rattle.link.specs.declared.gate.Gate.{Gate}
-use Rattle.link.specs.declared.gate.Gate.the-variants.{Open}
-use Rattle.link.specs.declared.link.Link.{Link}
+use Rattle.link.specs.declared.Settings.{Settings}
+use Rattle.link.specs.declared.Gate.{Gate}
+use Rattle.link.specs.declared.Gate.the-variants.{Open}
+use Rattle.link.specs.declared.Link.{Link}
 
 -- what the turn of a call says
 abbrev pub turned : Turn → Said

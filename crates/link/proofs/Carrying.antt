@@ -24,13 +24,13 @@ use Rattle.exchange.specs.Note.{noteNumber}
 use Rattle.exchange.specs.Send.{outgoingOf, sentOf}
 use Rattle.exchange.specs.Judge.{judgeOf}
 use Rattle.exchange.specs.Assembly.{headerIn, dataIn, Receiver, received}
-use Rattle.exchange.specs.declared.exchange.Exchange.{Exchange}
-use Rattle.exchange.specs.declared.send.Outgoing.{Outgoing}
-use Rattle.exchange.specs.declared.send.Outgoing.the-variants.{Message}
+use Rattle.exchange.specs.declared.Exchange.{Exchange}
+use Rattle.exchange.specs.declared.Outgoing.{Outgoing}
+use Rattle.exchange.specs.declared.Outgoing.the-variants.{Message}
 use Rattle.link.specs.Run.{settled, nextIn, acknowledged, blockIn}
 use Rattle.link.specs.SameMessage.{End, endOf, Said, hearsAll, drains, Pair, pair, carried, carries}
-use Rattle.link.specs.declared.setup.Settings.{Settings}
-use Rattle.link.specs.declared.answer.Outcome.the-variants.{Done}
+use Rattle.link.specs.declared.Settings.{Settings}
+use Rattle.link.specs.declared.Outcome.the-variants.{Done}
 use Rattle.link.proofs.Calling.{turned, said, unit, Sound, says, drains-as}
 use Rattle.link.proofs.Hearing.{one-heard, overwritten, ack-of, enq-heard, block-heard}
 use Rattle.link.proofs.Blocks.{block-bytes, block-length, ten-read, data-read, few, some, header-in-range, data-most, data-bytes, block-out}

@@ -15,13 +15,13 @@ use Rattle.exchange.specs.Request.{releaseOwn, releaseIncoming}
 use Rattle.link.specs.State.{withLine, withBlock, refusedAs, linkInRange, outputShort, roomFits, gateOf}
 use Rattle.link.specs.Run.{Left, left, Midway, midway, hasNext, endedAs, acknowledged}
 use Rattle.link.specs.Call.{through, gated, frees, releaseOwnCall, releaseIncomingCall}
-use Rattle.link.specs.declared.answer.Refusal.{Refusal}
-use Rattle.link.specs.declared.answer.Refusal.the-variants as refusal
-use Rattle.link.specs.declared.answer.Note.the-variants as note
-use Rattle.link.specs.declared.answer.Answer.{Answer}
-use Rattle.link.specs.declared.gate.Gate.{Gate}
-use Rattle.link.specs.declared.gate.Gate.the-variants as gate
-use Rattle.link.specs.declared.link.Link.{Link}
+use Rattle.link.specs.declared.Refusal.{Refusal}
+use Rattle.link.specs.declared.Refusal.the-variants as refusal
+use Rattle.link.specs.declared.Note.the-variants as note
+use Rattle.link.specs.declared.Answer.{Answer}
+use Rattle.link.specs.declared.Gate.{Gate}
+use Rattle.link.specs.declared.Gate.the-variants as gate
+use Rattle.link.specs.declared.Link.{Link}
 
 -- ---- refusals 1 to 3
 

@@ -18,8 +18,8 @@ use Rattle.place.specs.OwnTheorems as owns
 use Rattle.place.specs.Incoming.{freshIncoming}
 use Rattle.place.specs.IncomingHistory as incoming
 use Rattle.place.specs.IncomingTheorems as incomings
-use Rattle.place.specs.declared.own.Own.{Own}
-use Rattle.place.specs.declared.incoming.Incoming.{Incoming}
+use Rattle.place.specs.declared.Own.{Own}
+use Rattle.place.specs.declared.Incoming.{Incoming}
 use Rattle.table.proofs.Tables.{own-table, incoming-table}
 use Rattle.exchange.specs.Exchange.{ownPlace, incomingPlace, putOwn, putIncoming, withSending, savedNow}
 use Rattle.exchange.specs.Tick.{tickOf}
@@ -27,11 +27,11 @@ use Rattle.exchange.specs.Send.{endedOwn, endedReply, sentBy, failedBy}
 use Rattle.exchange.specs.Judge.{thrown, isMisrouted, replyBlock, messageBlock, beginsAt, judgeOf}
 use Rattle.exchange.specs.Request.{notReady, refusedBy, refused, claimedAt, openOf, replyAccepted, replyOf, releaseOwn, releaseIncoming}
 use Rattle.exchange.specs.History.{Call, block, tick, acknowledged, failed, primary, reply, free-own, free-incoming, called}
-use Rattle.exchange.specs.declared.exchange.Sending.{Sending}
-use Rattle.exchange.specs.declared.exchange.Sending.the-variants as sending
-use Rattle.exchange.specs.declared.exchange.Exchange.{Exchange}
-use Rattle.exchange.specs.declared.request.Primary.{Primary}
-use Rattle.exchange.specs.declared.request.Requested.{Requested}
+use Rattle.exchange.specs.declared.Sending.{Sending}
+use Rattle.exchange.specs.declared.Sending.the-variants as sending
+use Rattle.exchange.specs.declared.Exchange.{Exchange}
+use Rattle.exchange.specs.declared.Primary.{Primary}
+use Rattle.exchange.specs.declared.Requested.{Requested}
 use Rattle.exchange.proofs.Cases.{by-judge, by-open, by-reply}
 use Rattle.exchange.proofs.Tables.{set-one}
 use Rattle.exchange.proofs.Judging.{routed}
@@ -139,7 +139,7 @@ module _ (c : Terms) (x : Exchange) (room : List ℕ) (four : length (x .incomin
   incoming-block h d =
       by-judge c x h d room (λ j. P (incomingPlace (j .answer .exchange) p)) (λ e. same) (λ e u. same) (λ q e r. same)
       (λ q e r m. incoming-put q (incoming.block (headerOf h) (length d) (right-way c (headerOf h) e)) refl)
-      (λ q gone f e r m o v u t. incoming-put q (incoming.begin h (length d) (right-way c (headerOf h) e) o) refl) (λ n t r m. same)
+      (λ q gone f e r m o v u t. incoming-put q (incoming.begin (headerOf h) (length d) (right-way c (headerOf h) e) o) refl) (λ n t r m. same)
 
   incoming-acknowledged : (q : Sending) → P (incomingPlace (sentBy q x .exchange) p)
   unfolding endedOwn endedReply putOwn putIncoming withSending

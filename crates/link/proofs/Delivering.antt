@@ -13,10 +13,10 @@ use Rattle.room.specs.Room.{keptIn, front}
 use Rattle.room.specs.declared.Message.the-variants as message
 use Rattle.room.proofs.Reading.{front-read}
 use Rattle.place.specs.Own.{freshOwn, noReply, ended, acknowledged}
-use Rattle.place.specs.declared.own.OwnStage.{OwnStage}
-use Rattle.place.specs.declared.own.OwnStage.the-variants.{Awaiting, Done}
-use Rattle.place.specs.declared.verdict.Verdict.the-variants.{Sent}
-use Rattle.place.specs.declared.verdict.Standing.the-variants.{Open, Given}
+use Rattle.place.specs.declared.OwnStage.{OwnStage}
+use Rattle.place.specs.declared.OwnStage.the-variants.{Awaiting, Done}
+use Rattle.place.specs.declared.Verdict.the-variants.{Sent}
+use Rattle.place.specs.declared.Standing.the-variants.{Open, Given}
 use Rattle.table.specs.Number.{nextNumber}
 use Rattle.table.proofs.Giving.{number-given}
 use Rattle.line.specs.declared.phase.Phase.the-variants.{Idle}
@@ -28,24 +28,24 @@ use Rattle.exchange.specs.History.{primary}
 use Rattle.exchange.specs.Assembly.{headerIn, dataIn, Receiver, freshReceiver, received, Assembled}
 use Rattle.exchange.proofs.Leaving.{judge-leaves}
 use Rattle.exchange.proofs.Assembling.{assembly-of-cut}
-use Rattle.exchange.specs.declared.exchange.Sending.the-variants as sending
-use Rattle.exchange.specs.declared.exchange.Exchange.{Exchange}
-use Rattle.exchange.specs.declared.reading.OwnReading.the-variants as own
-use Rattle.exchange.specs.declared.reading.IncomingReading.{IncomingReading}
-use Rattle.exchange.specs.declared.reading.IncomingReading.the-variants as incoming
-use Rattle.exchange.specs.declared.reading.ReplyStage.{ReplyStage}
-use Rattle.exchange.specs.declared.request.Asked.the-variants as asked
-use Rattle.exchange.specs.declared.request.Primary.{Primary}
-use Rattle.exchange.specs.declared.send.Outgoing.the-variants.{Message}
+use Rattle.exchange.specs.declared.Sending.the-variants as sending
+use Rattle.exchange.specs.declared.Exchange.{Exchange}
+use Rattle.exchange.specs.declared.OwnReading.the-variants as own
+use Rattle.exchange.specs.declared.IncomingReading.{IncomingReading}
+use Rattle.exchange.specs.declared.IncomingReading.the-variants as incoming
+use Rattle.exchange.specs.declared.ReplyStage.{ReplyStage}
+use Rattle.exchange.specs.declared.Asked.the-variants as asked
+use Rattle.exchange.specs.declared.Primary.{Primary}
+use Rattle.exchange.specs.declared.Outgoing.the-variants.{Message}
 use Rattle.settings.specs.declared.terms.Terms.{Terms}
 use Rattle.link.specs.Setup.{settledOf}
 use Rattle.link.specs.State.{startBy, startOf}
 use Rattle.link.specs.Call.{openCall}
 use Rattle.link.specs.Reading.{messageBy}
 use Rattle.link.specs.SameMessage.{End, endOf, Said, carries, puts, outward, fresh, Linked, Lent, Sendable, Carriable, AsAsked, Delivered, SameMessage}
-use Rattle.link.specs.declared.setup.Setup.{Setup}
-use Rattle.link.specs.declared.setup.Settled.{Settled}
-use Rattle.link.specs.declared.answer.Outcome.the-variants.{Taken}
+use Rattle.link.specs.declared.Setup.{Setup}
+use Rattle.link.specs.declared.Settled.{Settled}
+use Rattle.link.specs.declared.Outcome.the-variants.{Taken}
 use Rattle.link.proofs.Calling.{unit, Sound}
 use Rattle.link.proofs.Carrying.{Arrived, all-carried}
 use Rattle.link.proofs.Standing.{settingsOf, Started, started, Stands, stands-fresh, stands-next, stands-received, stands-sound}

@@ -19,9 +19,9 @@ use Rattle.link.specs.Reading.{sendingOf}
 use Rattle.link.specs.History.{Call, byte, tick, drained, primary, reply, free-own, free-incoming, unlessRefused, onLine, cameTo, Made, Track, lentRoom, lineTrack, limitsIn, answered, next, track}
 use Rattle.link.specs.Inside.{Reached, lineOf, busy}
 use Rattle.link.specs.Door.{bytesLeft, closes, isBlock, lineBytes, onWay, kind, seesBy, Watch, watches, watched, watchOf, nothingWatched, OverBy, Stops, DoorRight}
-use Rattle.link.specs.declared.answer.Outcome.{Outcome}
-use Rattle.link.specs.declared.answer.Outcome.the-variants as outcome
-use Rattle.link.specs.declared.link.Link.{Link}
+use Rattle.link.specs.declared.Outcome.{Outcome}
+use Rattle.link.specs.declared.Outcome.the-variants as outcome
+use Rattle.link.specs.declared.Link.{Link}
 use Rattle.link.proofs.Lining.{line-goes}
 use Rattle.link.proofs.Reaching.{reached-next, start, reached-start, by-calls, line-inside}
 use Rattle.link.proofs.Agreeing.{agrees, whole-block}

@@ -21,15 +21,15 @@ use Rattle.line.specs.declared.step.Event.the-variants as event
 use Rattle.line.specs.declared.step.Step.{Step}
 use Rattle.line.specs.declared.line.Line.{Line}
 use Rattle.exchange.specs.Request.{openOf, replyOf, releaseOwn, releaseIncoming}
-use Rattle.exchange.specs.declared.exchange.Exchange.{Exchange}
-use Rattle.exchange.specs.declared.request.Asked.{Asked}
-use Rattle.exchange.specs.declared.request.Asked.the-variants as asked
+use Rattle.exchange.specs.declared.Exchange.{Exchange}
+use Rattle.exchange.specs.declared.Asked.{Asked}
+use Rattle.exchange.specs.declared.Asked.the-variants as asked
 use Rattle.link.specs.Run.{Left, left, Turn, leaves, hasNext, told, tickTold, tickBy, blockBytes, heardBy, hears, byteTurn, tickTurn, drainedTurn, sends}
 use Rattle.link.specs.Call.{asksBy, asks, freesBy}
 use Rattle.link.specs.History.{Call, byte, tick, drained, primary, reply, free-own, free-incoming, called, unlessRefused, asksNext, settles, hearing, onLine}
 use Rattle.link.specs.Door.{bytesLeft, lineBytes}
-use Rattle.link.specs.declared.answer.Outcome.the-variants as outcome
-use Rattle.link.specs.declared.link.Link.{Link}
+use Rattle.link.specs.declared.Outcome.the-variants as outcome
+use Rattle.link.specs.declared.Link.{Link}
 use Rattle.link.proofs.Cases.{by-gate, by-own, by-incoming, by-sent}
 
 -- ---- the line's part

@@ -27,9 +27,9 @@ use Rattle.link.specs.Reading.{sendingOf}
 use Rattle.link.specs.History.{byte, unlessRefused, settles, hearing, onLine, Track, lineTrack, limitsIn, lentRoom, Made, answered, next}
 use Rattle.link.specs.Inside.{Reached, busy}
 use Rattle.link.specs.Door.{lineBytes, onWay, accepted, kind, watches, Watch, watchOf, AtDoor, LeavesByLine, SendWithin, SendEnds, TriesAreEnqs, made, EachEnqItsBlock, NoneForgotten, ReceiveWithin, ReceiveEnds, followed, OverBy, ReceiveEndsBy, HeldFollows, SendEndsBy}
-use Rattle.link.specs.declared.setup.Settings.{Settings}
-use Rattle.link.specs.declared.answer.Outcome.{Outcome}
-use Rattle.link.specs.declared.answer.Outcome.the-variants as outcome
+use Rattle.link.specs.declared.Settings.{Settings}
+use Rattle.link.specs.declared.Outcome.{Outcome}
+use Rattle.link.specs.declared.Outcome.the-variants as outcome
 use Rattle.link.proofs.Reaching.{settings-stay, line-inside}
 use Rattle.link.proofs.Agreeing.{agrees}
 use Rattle.link.proofs.DoorLine.{Calm}

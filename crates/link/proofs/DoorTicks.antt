@@ -13,9 +13,9 @@ use Rattle.exchange.specs.History as exchange
 use Rattle.link.specs.Run.{hasNext}
 use Rattle.link.specs.History.{Call, byte, tick, drained, primary, reply, free-own, free-incoming, unlessRefused, asksNext, settles, hearing, onLine, toldOn, heardOn, failsOn, onExchange, cameTo}
 use Rattle.link.specs.Door.{kind, ticksBy, lineTicks, exchangeTicks, TicksCounted}
-use Rattle.link.specs.declared.answer.Outcome.{Outcome}
-use Rattle.link.specs.declared.answer.Outcome.the-variants as outcome
-use Rattle.link.specs.declared.link.Link.{Link}
+use Rattle.link.specs.declared.Outcome.{Outcome}
+use Rattle.link.specs.declared.Outcome.the-variants as outcome
+use Rattle.link.specs.declared.Link.{Link}
 
 -- ---- a byte makes none
 

@@ -5,26 +5,27 @@ use mathlib.Core.Bool.{Bool, true, false, cond, false≢true}
 use mathlib.Core.List.{List, [], _∷_, _++_}
 use mathlib.Core.Logic.{_↔_, _⊎_, inl, inr, ⊎-elim}
 use Rattle.wire.proofs.Choice.{either, chosen}
+use Rattle.header.specs.declared.header.Header.{Header}
 use Rattle.settings.specs.declared.terms.Terms.{Terms}
 use Rattle.line.specs.declared.step.Event.{Event}
 use Rattle.line.specs.declared.step.Event.the-variants as event
 use Rattle.place.specs.Incoming.{freshIncoming, primaryOf, repliedAt, incomingOffered}
 use Rattle.place.specs.IncomingHistory as incoming
 use Rattle.place.specs.IncomingTheorems.{spares}
-use Rattle.place.specs.declared.incoming.End.the-variants as end
-use Rattle.place.specs.declared.incoming.IncomingStage.{IncomingStage}
-use Rattle.place.specs.declared.incoming.IncomingStage.the-variants as arrival
-use Rattle.place.specs.declared.incoming.Incoming.{Incoming}
+use Rattle.place.specs.declared.End.the-variants as end
+use Rattle.place.specs.declared.IncomingStage.{IncomingStage}
+use Rattle.place.specs.declared.IncomingStage.the-variants as arrival
+use Rattle.place.specs.declared.Incoming.{Incoming}
 use Rattle.exchange.specs.Exchange.{incomingPlace}
 use Rattle.exchange.specs.Reading.{wanted, incomingReading}
 use Rattle.exchange.specs.Request.{askedNumber, replyOf, releaseIncoming}
 use Rattle.exchange.specs.History as exchange
 use Rattle.exchange.specs.Watching.{takenAt, watch}
-use Rattle.exchange.specs.declared.exchange.Exchange.{Exchange}
-use Rattle.exchange.specs.declared.reading.ReplyStage.{ReplyStage}
-use Rattle.exchange.specs.declared.reading.ReplyStage.the-variants.{NotOwed, Owed, OnItsWay, Sent, Failed}
-use Rattle.exchange.specs.declared.request.Asked.{Asked}
-use Rattle.exchange.specs.declared.request.Asked.the-variants as asked
+use Rattle.exchange.specs.declared.Exchange.{Exchange}
+use Rattle.exchange.specs.declared.ReplyStage.{ReplyStage}
+use Rattle.exchange.specs.declared.ReplyStage.the-variants.{NotOwed, Owed, OnItsWay, Sent, Failed}
+use Rattle.exchange.specs.declared.Asked.{Asked}
+use Rattle.exchange.specs.declared.Asked.the-variants as asked
 use Rattle.exchange.proofs.Repeated.{any-fresh}
 use Rattle.exchange.proofs.Refusing.{reply-exactly}
 use Rattle.exchange.proofs.Accepting.{accepted-replies, accepted-releases}
@@ -35,7 +36,7 @@ use Rattle.link.specs.History.{Call, byte, tick, drained, primary, reply
 use Rattle.link.specs.Inside.{Reached}
 use Rattle.link.specs.Verdicts.{AtEach, accepts, Accepted, FreesIncoming, Unless, no-more, one-more, stageBy, replyStands, replyFrom, OnItsWayExactly, hasEnded, EndStays, OneEnd}
 use Rattle.link.specs.Moves.{tells, Answers, ReplySent, ReplyLost, Comes, ReplyEnds}
-use Rattle.link.specs.declared.link.Link.{Link}
+use Rattle.link.specs.declared.Link.{Link}
 use Rattle.link.proofs.Cases.{by-gate}
 use Rattle.link.proofs.Reaching.{reached-next, by-calls}
 use Rattle.link.proofs.Changing.{freesIncoming, incoming-changed}
@@ -62,7 +63,7 @@ stageOf onway = OnItsWay
 stageOf sent = Sent
 stageOf failed = Failed
 
-way-at : (h : List ℕ) (z : IncomingStage) → wayOf (stageBy (readAs (record { header = h; stage = z }))) ≡ wayAt z
+way-at : (h : Header) (z : IncomingStage) → wayOf (stageBy (readAs (record { header = h; stage = z }))) ≡ wayAt z
 unfolding wanted
 way-at h arrival.Free = refl
 way-at h (arrival.Open timer next n) = refl
@@ -71,7 +72,7 @@ way-at h (arrival.Replying n) = refl
 way-at h (arrival.Replied n end.Sent) = refl
 way-at h (arrival.Replied n end.Failed) = refl
 
-ended-at : (h : List ℕ) (z : IncomingStage) → hasEnded (stageBy (readAs (record { header = h; stage = z }))) ≡ repliedAt z
+ended-at : (h : Header) (z : IncomingStage) → hasEnded (stageBy (readAs (record { header = h; stage = z }))) ≡ repliedAt z
 unfolding wanted
 ended-at h arrival.Free = refl
 ended-at h (arrival.Open timer next n) = refl
@@ -320,7 +321,7 @@ reply-ends t w p k m = record {
 
 -- ---- and it keeps its end
 
-replied-stays : (c : Terms) (h : List ℕ) (z : IncomingStage) (e : incoming.Event c) → repliedAt z ≡ true → spares e ≡ true
+replied-stays : (c : Terms) (h : Header) (z : IncomingStage) (e : incoming.Event c) → repliedAt z ≡ true → spares e ≡ true
     → incoming.step (record { header = h; stage = z }) e ≡ record { header = h; stage = z }
 unfolding incomingOffered
 replied-stays c h arrival.Free e g i = absurd (false≢true g)

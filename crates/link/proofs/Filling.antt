@@ -25,13 +25,13 @@ use Rattle.line.specs.declared.step.Event.the-variants as event
 use Rattle.place.specs.Fate.{fateOf}
 use Rattle.place.specs.Own.{ownKept}
 use Rattle.place.specs.Incoming.{incomingLength}
-use Rattle.place.specs.declared.fate.Fate.{Fate}
-use Rattle.place.specs.declared.fate.Fate.the-variants as fate
+use Rattle.place.specs.declared.Fate.{Fate}
+use Rattle.place.specs.declared.Fate.the-variants as fate
 use Rattle.table.specs.Own.{replyFor}
 use Rattle.table.specs.Incoming.{messageFor, openAlike}
 use Rattle.table.proofs.Finding.{reply-lowest, free-incoming-lowest, message-lowest, open-alike-lowest}
-use Rattle.table.specs.declared.find.Found.{Found}
-use Rattle.table.specs.declared.find.Found.the-variants.{At, Nowhere}
+use Rattle.table.specs.declared.Found.{Found}
+use Rattle.table.specs.declared.Found.the-variants.{At, Nowhere}
 use Rattle.exchange.specs.Note.{noteBy, noteNumber as blockNote}
 use Rattle.exchange.specs.Exchange.{ownPlace, incomingPlace, savedNow}
 use Rattle.exchange.specs.Judge.{thrown, keepBy, replyBlock, messageBlock, beginsAt, judgeOf}
@@ -42,15 +42,15 @@ use Rattle.exchange.proofs.Finding.{found, lowest}
 use Rattle.exchange.proofs.Judging.{reply-says, message-says, is-free, reply-here, message-here, alike-here}
 use Rattle.exchange.proofs.Leaving.{judge-leaves}
 use Rattle.exchange.proofs.Cases.{Thrown, stray, no-place, too-long, empty, Takes, by-judge, by-open, by-reply}
-use Rattle.exchange.specs.declared.note.Note.{Note}
-use Rattle.exchange.specs.declared.note.Note.the-variants.{Stray, NoPlace, TooLong, Empty}
-use Rattle.exchange.specs.declared.exchange.Exchange.{Exchange}
-use Rattle.exchange.specs.declared.request.Refusal.{Refusal as RequestRefusal}
-use Rattle.exchange.specs.declared.request.Primary.{Primary}
+use Rattle.exchange.specs.declared.Note.{Note}
+use Rattle.exchange.specs.declared.Note.the-variants.{Stray, NoPlace, TooLong, Empty}
+use Rattle.exchange.specs.declared.Exchange.{Exchange}
+use Rattle.exchange.specs.declared.Refusal.{Refusal as RequestRefusal}
+use Rattle.exchange.specs.declared.Primary.{Primary}
 use Rattle.link.specs.Answer.{noteNumber}
 use Rattle.link.specs.Run.{Midway, hasNext, acknowledged, told, tickTold, heardBy}
 use Rattle.link.specs.Refusals.{AreaOf, of-reply, of-message, of-alike, of-free}
-use Rattle.link.specs.declared.link.Link.{Link}
+use Rattle.link.specs.declared.Link.{Link}
 use Rattle.link.proofs.Refusing.{not-zero}
 
 -- ---- a block that is judged

@@ -22,10 +22,10 @@ use Rattle.line.specs.declared.step.Out.the-variants.{Code}
 use Rattle.line.specs.declared.step.Event.the-variants.{Up}
 use Rattle.exchange.specs.Note.{noteNumber}
 use Rattle.exchange.specs.Judge.{Judging}
-use Rattle.exchange.specs.declared.exchange.Exchange.{Exchange}
+use Rattle.exchange.specs.declared.Exchange.{Exchange}
 use Rattle.link.specs.Run.{judging}
 use Rattle.link.specs.SameMessage.{End, endOf, Said, noting, behind, hears, hearsAll}
-use Rattle.link.specs.declared.setup.Settings.{Settings}
+use Rattle.link.specs.declared.Settings.{Settings}
 use Rattle.link.proofs.Calling.{said, unit, Sound, says}
 
 -- ---- bytes, one after the other

@@ -1,7 +1,3 @@
--- Laws that the functions' proofs cite.
-pub mod Codes
-pub mod Gates
-pub mod Turns
 -- Calls by cases, and what one leaves of the line and of the transactions inside.
 pub mod Cases
 pub mod Lining
@@ -56,6 +52,5 @@ pub mod Asking
 pub mod Delivering
 pub mod Replying
 pub mod Returning
--- The numbers, and that each contract determines everything.
+-- The numbers.
 pub mod Table
-pub mod Determined

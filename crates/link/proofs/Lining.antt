@@ -9,16 +9,16 @@ use Rattle.line.specs.declared.step.Out.the-variants as out
 use Rattle.line.specs.declared.step.Event.{Event}
 use Rattle.line.specs.declared.step.Event.the-variants as event
 use Rattle.exchange.specs.Request.{openOf, replyOf, releaseOwn, releaseIncoming}
-use Rattle.exchange.specs.declared.exchange.Exchange.{Exchange}
-use Rattle.exchange.specs.declared.request.Asked.{Asked}
-use Rattle.exchange.specs.declared.request.Asked.the-variants as asked
+use Rattle.exchange.specs.declared.Exchange.{Exchange}
+use Rattle.exchange.specs.declared.Asked.{Asked}
+use Rattle.exchange.specs.declared.Asked.the-variants as asked
 use Rattle.link.specs.State.{withLine}
 use Rattle.link.specs.Run.{leaves, hasNext, closed, told, hears, heardBy, tickTold, places, drainedTurn}
 use Rattle.link.specs.Call.{asksBy, freesBy}
 use Rattle.link.specs.History.{Call, byte, tick, drained, primary, reply, free-own, free-incoming, called, unlessRefused, asksNext, settles, hearing, onLine}
 use Rattle.link.specs.Inside.{lineOf, SettingsKept, LineGoes}
-use Rattle.link.specs.declared.answer.Answer.{Answer}
-use Rattle.link.specs.declared.link.Link.{Link}
+use Rattle.link.specs.declared.Answer.{Answer}
+use Rattle.link.specs.declared.Link.{Link}
 use Rattle.link.proofs.Cases.{by-gate, by-own, by-incoming, by-sent}
 
 -- unit v is where these calls bring the line and the received bytes of unit u, at the same settings

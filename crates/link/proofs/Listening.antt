@@ -31,7 +31,7 @@ use Rattle.link.specs.Run.{hasNext}
 use Rattle.link.specs.History.{Call, byte, tick, drained, primary, reply, free-own, free-incoming, hearing, toldOn, heardOn, failsOn, onExchange, Track, lineTrack, limitsIn}
 use Rattle.link.specs.Inside.{Reached}
 use Rattle.link.specs.Moves.{tells, received, comes, SentExactly}
-use Rattle.link.specs.declared.link.Link.{Link}
+use Rattle.link.specs.declared.Link.{Link}
 use Rattle.link.proofs.Reaching.{line-inside}
 
 -- ---- a byte

@@ -6,25 +6,26 @@ use mathlib.Core.List.{List, [], _∷_}
 use mathlib.Core.Logic.{_↔_, inl, inr, ⊎-elim}
 use native.Mathlib.Omega.{arith}
 use lib.ListN.{length}
+use Rattle.header.specs.declared.header.Header.{Header}
 use Rattle.room.specs.declared.Message.the-variants as message
 use Rattle.room.proofs.Reading.{front-read}
 use Rattle.place.specs.Incoming.{primaryOf, lengthAt, incomingLength, incomingIsFree, incomingIsOpen}
 use Rattle.place.specs.IncomingHistory as incoming
 use Rattle.place.specs.IncomingTheorems as place
 use Rattle.place.proofs.Completing as proved
-use Rattle.place.specs.declared.incoming.IncomingStage.{IncomingStage}
-use Rattle.place.specs.declared.incoming.IncomingStage.the-variants as stage
-use Rattle.place.specs.declared.incoming.Incoming.{Incoming}
+use Rattle.place.specs.declared.IncomingStage.{IncomingStage}
+use Rattle.place.specs.declared.IncomingStage.the-variants as stage
+use Rattle.place.specs.declared.Incoming.{Incoming}
 use Rattle.exchange.specs.Exchange.{incomingPlace}
 use Rattle.exchange.specs.Reading.{replyStage, incomingReading}
 use Rattle.exchange.specs.Request.{releaseIncoming}
 use Rattle.exchange.specs.History as exchange
 use Rattle.exchange.specs.Watching.{freedSeen, incomingSees, watch}
-use Rattle.exchange.specs.declared.exchange.Exchange.{Exchange}
-use Rattle.exchange.specs.declared.reading.IncomingReading.{IncomingReading}
-use Rattle.exchange.specs.declared.reading.IncomingReading.the-variants as arrival
-use Rattle.exchange.specs.declared.request.Asked.{Asked}
-use Rattle.exchange.specs.declared.request.Asked.the-variants as asked
+use Rattle.exchange.specs.declared.Exchange.{Exchange}
+use Rattle.exchange.specs.declared.IncomingReading.{IncomingReading}
+use Rattle.exchange.specs.declared.IncomingReading.the-variants as arrival
+use Rattle.exchange.specs.declared.Asked.{Asked}
+use Rattle.exchange.specs.declared.Asked.the-variants as asked
 use Rattle.exchange.proofs.Judging.{message-says}
 use Rattle.exchange.proofs.Holding.{IncomingHolds}
 use Rattle.exchange.proofs.Areas.{always}
@@ -34,7 +35,7 @@ use Rattle.link.specs.Call.{freesBy, releaseIncomingCall}
 use Rattle.link.specs.History.{Call, called, Made, onExchange, Track, exchangeTrack, termsIn, onExchangeIn, next, track}
 use Rattle.link.specs.Inside.{Reached}
 use Rattle.link.specs.Verdicts.{accepts, FreesIncoming, Unless, no-more, one-more, thereBy, completeBy, isThere, isComplete, CompleteExactly, TakesExactly, headerBy, lengthBy, MessageShown, MessageStays, MessageKept, CompleteStays, MessageRead}
-use Rattle.link.specs.declared.link.Link.{Link}
+use Rattle.link.specs.declared.Link.{Link}
 use Rattle.link.proofs.Cases.{by-incoming}
 use Rattle.link.proofs.Reaching.{reached-next}
 use Rattle.link.proofs.Placing.{places-inside}
@@ -57,24 +58,24 @@ showing incoming.complete = true
 showing incoming.replying = true
 showing (incoming.replied e) = true
 
-abbrev at : List ℕ → IncomingStage → Incoming
+abbrev at : Header → IncomingStage → Incoming
 at h z = record { header = h; stage = z }
 
-there-at : (h : List ℕ) (z : IncomingStage) → thereBy (readAs (at h z)) ≡ showing (incoming.showsAt z)
+there-at : (h : Header) (z : IncomingStage) → thereBy (readAs (at h z)) ≡ showing (incoming.showsAt z)
 there-at h stage.Free = refl
 there-at h (stage.Open timer next n) = refl
 there-at h (stage.Complete n) = refl
 there-at h (stage.Replying n) = refl
 there-at h (stage.Replied n e) = refl
 
-complete-at : (h : List ℕ) (z : IncomingStage) → completeBy (readAs (at h z)) ≡ place.isComplete (incoming.showsAt z)
+complete-at : (h : Header) (z : IncomingStage) → completeBy (readAs (at h z)) ≡ place.isComplete (incoming.showsAt z)
 complete-at h stage.Free = refl
 complete-at h (stage.Open timer next n) = refl
 complete-at h (stage.Complete n) = refl
 complete-at h (stage.Replying n) = refl
 complete-at h (stage.Replied n e) = refl
 
-parts-at : (h : List ℕ) (z : IncomingStage) → thereBy (readAs (at h z)) ≡ true → (headerBy (readAs (at h z)) ≡ primaryOf (at h z)) × (lengthBy (readAs (at h z)) ≡ lengthAt z)
+parts-at : (h : Header) (z : IncomingStage) → thereBy (readAs (at h z)) ≡ true → (headerBy (readAs (at h z)) ≡ primaryOf (at h z)) × (lengthBy (readAs (at h z)) ≡ lengthAt z)
 parts-at h stage.Free e = absurd (false≢true e)
 parts-at h (stage.Open timer next n) e = (refl, refl)
 parts-at h (stage.Complete n) e = (refl, refl)
@@ -160,7 +161,7 @@ message-shown t w p k e =
 -- ---- the bytes of a message
 
 module _ (room : List ℕ) (p : ℕ) (bs : List ℕ) (whole : length room ≡ 36864) (within : p < 4) where
-  message-reads : (h : List ℕ) (z : IncomingStage) → thereBy (readAs (at h z)) ≡ true → IncomingHolds room p z bs
+  message-reads : (h : Header) (z : IncomingStage) → thereBy (readAs (at h z)) ≡ true → IncomingHolds room p z bs
       → (messageBy (readAs (at h z)) room p ≡ bs) × (lengthAt z ≡ length bs)
   message-reads h stage.Free e g = absurd (false≢true e)
   message-reads h (stage.Open timer next n) e g = (front-read room (message.Incoming p) n (record { whole = whole; place = within; within = omega (arith, g .few) }) ∙ g .begins .bytes, g .begins .size)
@@ -209,7 +210,7 @@ stays before after p e s =
     let done = complete-read after p ∙ s .0 in
     let a = parts-read after p (there after done) in
     let b = parts-read before p (there before e) in
-    record { complete = done; header = a .0 ∙ ap (λ (h : List ℕ). primaryOf (at h stage.Free)) (s .1) ∙ sym (b .0); size = a .1 ∙ s .2 ∙ sym (b .1) }
+    record { complete = done; header = a .0 ∙ s .1 ∙ sym (b .0); size = a .1 ∙ s .2 ∙ sym (b .1) }
 
 -- one call more
 not-released : (t : Track) → Reached t → (p : ℕ) → p < 4 → isComplete t p ≡ true → (m : Made) → (FreesIncoming t m p → ⊥) → Same (here t p) (here (next t m) p)

@@ -16,12 +16,12 @@ use Rattle.line.specs.declared.step.Event.the-variants as event
 use Rattle.place.specs.Own.{ownStanding, standingAt, givenBy, ownHasVerdict}
 use Rattle.place.specs.OwnHistory as own
 use Rattle.place.proofs.Verdicts.{free-exactly}
-use Rattle.place.specs.declared.verdict.Standing.the-variants as standing
+use Rattle.place.specs.declared.Standing.the-variants as standing
 use Rattle.table.specs.Own.{replyFor}
 use Rattle.table.specs.Incoming.{messageFor, openAlike, freeIncoming}
 use Rattle.table.proofs.Finding.{reply-lowest}
-use Rattle.table.specs.declared.find.Found.{Found}
-use Rattle.table.specs.declared.find.Found.the-variants.{At, Nowhere}
+use Rattle.table.specs.declared.Found.{Found}
+use Rattle.table.specs.declared.Found.the-variants.{At, Nowhere}
 use Rattle.exchange.specs.Note.{noteNumber as blockNote}
 use Rattle.exchange.specs.Exchange.{ownPlace}
 use Rattle.exchange.specs.Judge.{judgeOf}
@@ -29,14 +29,14 @@ use Rattle.exchange.specs.Request.{refusedBy, openOf, releaseOwn}
 use Rattle.exchange.specs.Rules.{Fours, LowestAt, OfReply}
 use Rattle.exchange.specs.History as exchange
 use Rattle.exchange.specs.Watching.{foundAt, takenAt, sentFrom, toldBy, acceptedAs, ownSees, watch}
-use Rattle.exchange.specs.declared.note.Note.{Note}
-use Rattle.exchange.specs.declared.note.Note.the-variants.{Kept, Misrouted, Duplicate, Stray, NoPlace, TooLong, Empty}
-use Rattle.exchange.specs.declared.exchange.Exchange.{Exchange}
-use Rattle.exchange.specs.declared.request.Asked.{Asked}
-use Rattle.exchange.specs.declared.request.Asked.the-variants as asked
-use Rattle.exchange.specs.declared.request.Refusal.the-variants as refusal
-use Rattle.exchange.specs.declared.request.Primary.{Primary}
-use Rattle.exchange.specs.declared.request.Requested.{Requested}
+use Rattle.exchange.specs.declared.Note.{Note}
+use Rattle.exchange.specs.declared.Note.the-variants.{Kept, Misrouted, Duplicate, Stray, NoPlace, TooLong, Empty}
+use Rattle.exchange.specs.declared.Exchange.{Exchange}
+use Rattle.exchange.specs.declared.Asked.{Asked}
+use Rattle.exchange.specs.declared.Asked.the-variants as asked
+use Rattle.exchange.specs.declared.Refusal.the-variants as refusal
+use Rattle.exchange.specs.declared.Primary.{Primary}
+use Rattle.exchange.specs.declared.Requested.{Requested}
 use Rattle.exchange.proofs.Finding.{lowest}
 use Rattle.exchange.proofs.Judging.{reply-says}
 use Rattle.exchange.proofs.Joining.{anew-here}
@@ -47,8 +47,8 @@ use Rattle.link.specs.History.{Call, byte, tick, drained, primary, reply
 use Rattle.link.specs.Inside.{Reached}
 use Rattle.link.specs.Verdicts.{accepts, Accepted, FreesOwn}
 use Rattle.link.specs.Moves.{Refused, Ticks, tells, received, GoesUp, Opens, Acknowledges, Loses, RepliedTo, passed, underwayWith, countsStart, OwnStep, same, passes, loses, loses-passing, opens, acknowledges, frees, keeps, spoils, Becomes, OwnSeen}
-use Rattle.link.specs.declared.answer.Outcome.the-variants as outcome
-use Rattle.link.specs.declared.link.Link.{Link}
+use Rattle.link.specs.declared.Outcome.the-variants as outcome
+use Rattle.link.specs.declared.Link.{Link}
 use Rattle.link.proofs.Cases.{by-gate, by-own}
 use Rattle.link.proofs.Placing.{places-inside}
 use Rattle.link.proofs.Underway.{acknowledged-apart, lost-apart}

@@ -18,8 +18,8 @@ use Rattle.link.specs.History.{Call, byte, tick, drained, primary, reply
 use Rattle.link.specs.Inside.{Reached}
 use Rattle.link.specs.Verdicts.{accepts}
 use Rattle.link.specs.Moves.{noted, tells, Tells, received, GoesUp, unremarked, Noted, refused, nothing, block, no-length, gap, bad-length, bad-sum, NotesLifted}
-use Rattle.link.specs.declared.answer.Note.the-variants as note
-use Rattle.link.specs.declared.link.Link.{Link}
+use Rattle.link.specs.declared.Note.the-variants as note
+use Rattle.link.specs.declared.Link.{Link}
 use Rattle.link.proofs.Cases.{by-sent}
 use Rattle.link.proofs.Stepping.{lent, four-places, sound-inside}
 use Rattle.link.proofs.Saying.{saidIn, accepted-says, refused-says}

@@ -11,10 +11,10 @@ use Rattle.settings.proofs.Timers.{by-timer}
 use Rattle.line.specs.declared.step.Event.{Event}
 use Rattle.line.specs.declared.step.Event.the-variants as event
 use Rattle.place.specs.Own.{freshOwn, ended, ownFailed, awaitedBy, awaitTick, replyingBy, replyTick, ownTick}
-use Rattle.place.specs.declared.verdict.Verdict.{Verdict}
-use Rattle.place.specs.declared.own.OwnStage.{OwnStage}
-use Rattle.place.specs.declared.own.OwnStage.the-variants as stage
-use Rattle.place.specs.declared.own.Own.{Own}
+use Rattle.place.specs.declared.Verdict.{Verdict}
+use Rattle.place.specs.declared.OwnStage.{OwnStage}
+use Rattle.place.specs.declared.OwnStage.the-variants as stage
+use Rattle.place.specs.declared.Own.{Own}
 use Rattle.table.proofs.Tables.{own-table}
 use Rattle.exchange.specs.Exchange.{ownPlace, putOwn, putIncoming, withSending}
 use Rattle.exchange.specs.Tick.{tickOf}
@@ -26,13 +26,13 @@ use Rattle.exchange.specs.Numbers.{numberShown, byLine, byPlace, gets, NumbersS
 use Rattle.exchange.specs.History as exchange
 use Rattle.exchange.proofs.Tables.{set-one}
 use Rattle.exchange.proofs.Numbering.{read, same-gets, tick-gets, ticked-gets, highest-none, stays-on, numbers-kept-on, number-distinct as number-new}
-use Rattle.exchange.specs.declared.reading.OwnReading.{OwnReading}
-use Rattle.exchange.specs.declared.exchange.Sending.{Sending}
-use Rattle.exchange.specs.declared.exchange.Sending.the-variants as sending
-use Rattle.exchange.specs.declared.exchange.Exchange.{Exchange}
-use Rattle.exchange.specs.declared.request.Asked.{Asked}
-use Rattle.exchange.specs.declared.request.Asked.the-variants as asked
-use Rattle.exchange.specs.declared.request.Primary.{Primary}
+use Rattle.exchange.specs.declared.OwnReading.{OwnReading}
+use Rattle.exchange.specs.declared.Sending.{Sending}
+use Rattle.exchange.specs.declared.Sending.the-variants as sending
+use Rattle.exchange.specs.declared.Exchange.{Exchange}
+use Rattle.exchange.specs.declared.Asked.{Asked}
+use Rattle.exchange.specs.declared.Asked.the-variants as asked
+use Rattle.exchange.specs.declared.Primary.{Primary}
 use Rattle.link.specs.Run.{Left, hasNext}
 use Rattle.link.specs.Call.{asksBy, openCall}
 use Rattle.link.specs.History.{Call, byte, tick, drained, primary, reply, free-own, free-incoming, called, Room, Made, unlessRefused, toldOn, failsOn, hearing, onExchange, Track, exchangeTrack, termsIn, answered, next, track}
@@ -40,7 +40,7 @@ use Rattle.link.specs.Inside.{Reached}
 use Rattle.link.specs.Verdicts.{accepts}
 use Rattle.link.specs.Moves.{tells}
 use Rattle.link.specs.Numbers.{lastBy, numbersSees, numbersWatch, numbersSeen, NumbersKept, NumberDistinct}
-use Rattle.link.specs.declared.answer.Outcome.the-variants as outcome
+use Rattle.link.specs.declared.Outcome.the-variants as outcome
 use Rattle.link.proofs.Cases.{by-gate}
 use Rattle.link.proofs.Reaching.{reached-next, start, reached-start}
 use Rattle.link.proofs.Stepping.{Sound, four-places, sound-on, sound-inside, lent, goes, by-unless, accepted-calls}

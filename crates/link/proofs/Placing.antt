@@ -13,7 +13,7 @@ use Rattle.exchange.proofs.Areas.{always}
 use Rattle.exchange.proofs.Watching.{own-watched-on, incoming-watched-on, own-watched, incoming-watched}
 use Rattle.link.specs.History.{Made, Track, exchangeTrack, termsIn, onExchangeIn, lentRoom, next}
 use Rattle.link.specs.Inside.{InSomeRoom, ExchangeInside, Watched, PlacesInside}
-use Rattle.link.specs.declared.setup.Settings.{Settings}
+use Rattle.link.specs.declared.Settings.{Settings}
 use Rattle.link.proofs.Lining.{settings-kept}
 use Rattle.link.proofs.Telling.{exchange-goes}
 use Rattle.link.proofs.Reaching.{by-calls}

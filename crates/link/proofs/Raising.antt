@@ -8,6 +8,7 @@ use native.Mathlib.Omega.{arith}
 use Rattle.wire.specs.Bytes.{part}
 use Rattle.wire.proofs.Choice.{either}
 use Rattle.header.specs.Header.{firstTen}
+use Rattle.header.specs.declared.header.Header.{Header}
 use Rattle.settings.specs.declared.terms.Terms.{Terms}
 use Rattle.line.specs.Line.{tickOf as lineTick}
 use Rattle.line.specs.declared.step.Event.{Event}
@@ -16,11 +17,11 @@ use Rattle.place.specs.Own.{ownHasVerdict, givenBy, standingAt, ownOffered}
 use Rattle.place.specs.OwnHistory as own
 use Rattle.place.specs.OwnTheorems.{spares}
 use Rattle.place.specs.Incoming.{freshIncoming, openAt, incomingIsComplete, incomingIsOpen, incomingFailed}
-use Rattle.place.specs.declared.own.OwnStage.{OwnStage}
-use Rattle.place.specs.declared.own.OwnStage.the-variants as stage
-use Rattle.place.specs.declared.incoming.IncomingStage.{IncomingStage}
-use Rattle.place.specs.declared.incoming.IncomingStage.the-variants as arrival
-use Rattle.place.specs.declared.incoming.Incoming.{Incoming}
+use Rattle.place.specs.declared.OwnStage.{OwnStage}
+use Rattle.place.specs.declared.OwnStage.the-variants as stage
+use Rattle.place.specs.declared.IncomingStage.{IncomingStage}
+use Rattle.place.specs.declared.IncomingStage.the-variants as arrival
+use Rattle.place.specs.declared.Incoming.{Incoming}
 use Rattle.exchange.specs.Flags.{noMarks, noFlags}
 use Rattle.exchange.specs.Exchange.{ownPlace, incomingPlace, putOwn, putIncoming, withSending}
 use Rattle.exchange.specs.Tick.{tickOf}
@@ -28,10 +29,10 @@ use Rattle.exchange.specs.Send.{endedOwn, endedReply, failedBy, failedOf}
 use Rattle.exchange.specs.Rules.{Fours}
 use Rattle.exchange.specs.Theorems.{flagAt, becameGiven, becameComplete, ThrowsOut as BlockThrowsOut, noneThrown, Flagged}
 use Rattle.exchange.specs.History as exchange
-use Rattle.exchange.specs.declared.flags.Flags.{Flags}
-use Rattle.exchange.specs.declared.exchange.Sending.{Sending}
-use Rattle.exchange.specs.declared.exchange.Sending.the-variants as sending
-use Rattle.exchange.specs.declared.exchange.Exchange.{Exchange}
+use Rattle.exchange.specs.declared.Flags.{Flags}
+use Rattle.exchange.specs.declared.Sending.{Sending}
+use Rattle.exchange.specs.declared.Sending.the-variants as sending
+use Rattle.exchange.specs.declared.Exchange.{Exchange}
 use Rattle.exchange.proofs.Tables.{set-one}
 use Rattle.exchange.proofs.Flagging.{unmarked, unflagged}
 use Rattle.exchange.proofs.Telling.{flags-exactly}
@@ -40,7 +41,7 @@ use Rattle.link.specs.Run.{Midway, hears, hasNext, told, tickTold, eithe
 use Rattle.link.specs.History.{Call, byte, tick, drained, primary, reply, free-own, free-incoming, hearing, toldOn, failsOn, onExchange, Made, Track, termsIn, answered, next}
 use Rattle.link.specs.Verdicts.{accepts}
 use Rattle.link.specs.Moves.{tells, Tells, received, onTheLine, ThrowsOut, FlagsLifted}
-use Rattle.link.specs.declared.link.Link.{Link}
+use Rattle.link.specs.declared.Link.{Link}
 use Rattle.link.proofs.Cases.{by-sent}
 use Rattle.link.proofs.Changing.{freesOwn, own-changed}
 use Rattle.link.proofs.Stepping.{Sound, sound-inside, sound-on, four-places, lent, accepted-calls}
@@ -117,7 +118,7 @@ module _ (c : Terms) (x : Exchange) (four : Fours x) (p : ℕ) (within : p < 4) 
   keeps-verdict k e v =
       own-changed c x [] (four .own) p within (λ o. ownHasVerdict o ≡ true) v (λ a s. verdict-done c (ownPlace x p .header) (ownPlace x p .stage) a v s) k e
 
-failed-stage : (h : List ℕ) (z : IncomingStage) → incomingIsOpen (incomingFailed (record { header = h; stage = z })) ≡ openAt z
+failed-stage : (h : Header) (z : IncomingStage) → incomingIsOpen (incomingFailed (record { header = h; stage = z })) ≡ openAt z
 failed-stage h arrival.Free = refl
 failed-stage h (arrival.Open timer next n) = refl
 failed-stage h (arrival.Complete n) = refl

@@ -16,19 +16,19 @@ use Rattle.line.specs.declared.phase.Arrival.{Arrival}
 use Rattle.line.specs.declared.phase.Phase.{Phase}
 use Rattle.line.specs.declared.phase.Phase.the-variants.{Idle, WaitEot, Draining, WaitAck, WaitLength, Body, Silence}
 use Rattle.place.specs.Range.{timerInRange, lengthInRange, openInRange, ownStageInRange, ownInRange, incomingStageInRange, incomingInRange}
-use Rattle.place.specs.declared.own.OwnStage.{OwnStage}
-use Rattle.place.specs.declared.own.OwnStage.the-variants as own
-use Rattle.place.specs.declared.incoming.IncomingStage.{IncomingStage}
-use Rattle.place.specs.declared.incoming.IncomingStage.the-variants as incoming
+use Rattle.place.specs.declared.OwnStage.{OwnStage}
+use Rattle.place.specs.declared.OwnStage.the-variants as own
+use Rattle.place.specs.declared.IncomingStage.{IncomingStage}
+use Rattle.place.specs.declared.IncomingStage.the-variants as incoming
 use Rattle.exchange.specs.Exchange.{ownPlace, incomingPlace}
 use Rattle.exchange.specs.Range.{ownsInRange, incomingsInRange, messageInRange, sendingInRange, exchangeInRange}
-use Rattle.exchange.specs.declared.exchange.Sending.{Sending}
-use Rattle.exchange.specs.declared.exchange.Sending.the-variants as sending
+use Rattle.exchange.specs.declared.Sending.{Sending}
+use Rattle.exchange.specs.declared.Sending.the-variants as sending
 use Rattle.link.specs.Setup.{settingsInRange}
 use Rattle.link.specs.State.{linkInRange}
 use Rattle.link.specs.Refusals.{SettingsFit, ArrivalFits, PhaseFits, OpenFits, OwnStageFits, IncomingStageFits, SendingFits, Fits, RangesExactly}
-use Rattle.link.specs.declared.setup.Settings.{Settings}
-use Rattle.link.specs.declared.link.Link.{Link}
+use Rattle.link.specs.declared.Settings.{Settings}
+use Rattle.link.specs.declared.Link.{Link}
 
 -- ---- a number
 

@@ -25,27 +25,27 @@ use Rattle.line.specs.declared.step.Event.{Event}
 use Rattle.exchange.specs.Range.{exchangeInRange}
 use Rattle.exchange.specs.Request.{openOf, replyOf, releaseOwn, releaseIncoming}
 use Rattle.exchange.proofs.Inside.{exchange-reached-in-range}
-use Rattle.exchange.specs.declared.exchange.Exchange.{Exchange}
-use Rattle.exchange.specs.declared.request.Asked.{Asked}
-use Rattle.exchange.specs.declared.request.Asked.the-variants as asked
+use Rattle.exchange.specs.declared.Exchange.{Exchange}
+use Rattle.exchange.specs.declared.Asked.{Asked}
+use Rattle.exchange.specs.declared.Asked.the-variants as asked
 use Rattle.link.specs.Setup.{panelOf, messagesOf, agreedBy, takenBy, settledOf, settingsInRange}
 use Rattle.link.specs.State.{linkInRange, outputShort, roomFits, gateOf}
 use Rattle.link.specs.Run.{leaves, hears, heardBy, tickTurn, drainedTurn}
 use Rattle.link.specs.Call.{asksBy, freesBy}
 use Rattle.link.specs.History.{Call, byte, tick, drained, primary, reply, free-own, free-incoming, called, hearing, Track, lineTrack, exchangeTrack, limitsIn, termsIn}
 use Rattle.link.specs.Inside.{Reached, ReachedInRange, NeverThree}
-use Rattle.link.specs.declared.setup.Setup.{Setup}
-use Rattle.link.specs.declared.setup.Settings.{Settings}
-use Rattle.link.specs.declared.setup.Settled.{Settled}
-use Rattle.link.specs.declared.setup.Settled.the-variants as settled
-use Rattle.link.specs.declared.answer.Refusal.{Refusal}
-use Rattle.link.specs.declared.answer.Refusal.the-variants as refusal
-use Rattle.link.specs.declared.answer.Outcome.{Outcome}
-use Rattle.link.specs.declared.answer.Outcome.the-variants as outcome
-use Rattle.link.specs.declared.answer.Answer.{Answer}
-use Rattle.link.specs.declared.gate.Gate.{Gate}
-use Rattle.link.specs.declared.gate.Gate.the-variants as gate
-use Rattle.link.specs.declared.link.Link.{Link}
+use Rattle.link.specs.declared.Setup.{Setup}
+use Rattle.link.specs.declared.Settings.{Settings}
+use Rattle.link.specs.declared.Settled.{Settled}
+use Rattle.link.specs.declared.Settled.the-variants as settled
+use Rattle.link.specs.declared.Refusal.{Refusal}
+use Rattle.link.specs.declared.Refusal.the-variants as refusal
+use Rattle.link.specs.declared.Outcome.{Outcome}
+use Rattle.link.specs.declared.Outcome.the-variants as outcome
+use Rattle.link.specs.declared.Answer.{Answer}
+use Rattle.link.specs.declared.Gate.{Gate}
+use Rattle.link.specs.declared.Gate.the-variants as gate
+use Rattle.link.specs.declared.Link.{Link}
 use Rattle.link.proofs.Cases.{by-gate, by-own, by-incoming}
 use Rattle.link.proofs.Reaching.{settings-stay, line-inside}
 use Rattle.link.proofs.Placing.{exchange-inside}

@@ -8,7 +8,7 @@ use Rattle.line.specs.History as line
 use Rattle.line.specs.Theorems.{Reached as LineReached}
 use Rattle.link.specs.History.{Made, Track, lineTrack, limitsIn, onLineIn, lentRoom, next, track, atStart}
 use Rattle.link.specs.Inside.{Reached, SettingsStay, LineInside}
-use Rattle.link.specs.declared.setup.Settings.{Settings}
+use Rattle.link.specs.declared.Settings.{Settings}
 use Rattle.link.proofs.Lining.{line-goes, settings-kept}
 
 -- ---- any calls

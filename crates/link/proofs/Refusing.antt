@@ -17,26 +17,26 @@ use Rattle.exchange.specs.Rules.{Fours}
 use Rattle.exchange.specs.Refusals.{numbered}
 use Rattle.exchange.proofs.Refusing.{open-exactly, reply-exactly, release-own-exactly, release-incoming-exactly}
 use Rattle.exchange.proofs.Accepting.{refused-changes-nothing as requests-change-nothing}
-use Rattle.exchange.specs.declared.exchange.Exchange.{Exchange}
-use Rattle.exchange.specs.declared.request.Asked.{Asked}
-use Rattle.exchange.specs.declared.request.Asked.the-variants as asked
-use Rattle.exchange.specs.declared.request.Refusal.{Refusal as RequestRefusal}
-use Rattle.exchange.specs.declared.request.Refusal.the-variants as request
-use Rattle.exchange.specs.declared.request.Primary.{Primary}
-use Rattle.exchange.specs.declared.request.Requested.{Requested}
+use Rattle.exchange.specs.declared.Exchange.{Exchange}
+use Rattle.exchange.specs.declared.Asked.{Asked}
+use Rattle.exchange.specs.declared.Asked.the-variants as asked
+use Rattle.exchange.specs.declared.Refusal.{Refusal as RequestRefusal}
+use Rattle.exchange.specs.declared.Refusal.the-variants as request
+use Rattle.exchange.specs.declared.Primary.{Primary}
+use Rattle.exchange.specs.declared.Requested.{Requested}
 use Rattle.link.specs.Answer.{outcomeNumber}
 use Rattle.link.specs.State.{refusedAs, linkInRange, outputShort, roomFits, gateOf}
 use Rattle.link.specs.Run.{Left, left, heardBy, byteTurn, tickTurn, drainedTurn, sends, leaves, hears}
 use Rattle.link.specs.Call.{through, gated, asksBy, asks, freesBy, frees, releaseOwnCall, releaseIncomingCall}
 use Rattle.link.specs.History.{Call, byte, tick, drained, primary, reply, free-own, free-incoming, called, hearing}
 use Rattle.link.specs.Refusals.{Untouched, RefusedChangesNothing, lends, OutputShort, RoomWrong, OutOfRange, Passes, RuledBehind, Ruled, ruled-1, ruled-2, ruled-3, ruled-behind, RefusalTable}
-use Rattle.link.specs.declared.answer.Answer.{Answer}
-use Rattle.link.specs.declared.answer.Refusal.{Refusal}
-use Rattle.link.specs.declared.answer.Refusal.the-variants as refusal
-use Rattle.link.specs.declared.answer.Outcome.{Outcome}
-use Rattle.link.specs.declared.answer.Outcome.the-variants as outcome
-use Rattle.link.specs.declared.gate.Gate.the-variants as gate
-use Rattle.link.specs.declared.link.Link.{Link}
+use Rattle.link.specs.declared.Answer.{Answer}
+use Rattle.link.specs.declared.Refusal.{Refusal}
+use Rattle.link.specs.declared.Refusal.the-variants as refusal
+use Rattle.link.specs.declared.Outcome.{Outcome}
+use Rattle.link.specs.declared.Outcome.the-variants as outcome
+use Rattle.link.specs.declared.Gate.the-variants as gate
+use Rattle.link.specs.declared.Link.{Link}
 use Rattle.link.proofs.Ranges.{link-fits}
 
 -- ---- a call, row by row

@@ -16,13 +16,13 @@ use Rattle.settings.proofs.Timers.{by-timer}
 use Rattle.place.specs.Fate.{fateOf}
 use Rattle.place.specs.Own.{ownHasVerdict}
 use Rattle.place.specs.Incoming.{freshIncoming, completeAt, repliedAt, begunBy, begins, incomingBegun, openBy, openTick, incomingTick, keptBy, goesOn, incomingTakes, incomingOffered, incomingAnswered, incomingSent, incomingFailed, incomingReleased, incomingLength}
-use Rattle.place.specs.declared.fate.Fate.{Fate}
-use Rattle.place.specs.declared.fate.Fate.the-variants as fate
-use Rattle.place.specs.declared.incoming.End.{End}
-use Rattle.place.specs.declared.incoming.End.the-variants as end
-use Rattle.place.specs.declared.incoming.IncomingStage.{IncomingStage}
-use Rattle.place.specs.declared.incoming.IncomingStage.the-variants as arrival
-use Rattle.place.specs.declared.incoming.Incoming.{Incoming}
+use Rattle.place.specs.declared.Fate.{Fate}
+use Rattle.place.specs.declared.Fate.the-variants as fate
+use Rattle.place.specs.declared.End.{End}
+use Rattle.place.specs.declared.End.the-variants as end
+use Rattle.place.specs.declared.IncomingStage.{IncomingStage}
+use Rattle.place.specs.declared.IncomingStage.the-variants as arrival
+use Rattle.place.specs.declared.Incoming.{Incoming}
 use Rattle.table.proofs.Tables.{incoming-table}
 use Rattle.exchange.specs.Exchange.{ownPlace, incomingPlace, putOwn, putIncoming, withSending, savedNow}
 use Rattle.exchange.specs.Tick.{tickOf}
@@ -33,11 +33,11 @@ use Rattle.exchange.specs.Rules.{Fours}
 use Rattle.exchange.specs.Refusals.{IsSending, free, not-complete, on-its-way, replied, Owed, ReplyRuled, reply-0}
 use Rattle.exchange.specs.History as exchange
 use Rattle.exchange.specs.Watching.{takenAt}
-use Rattle.exchange.specs.declared.exchange.Sending.{Sending}
-use Rattle.exchange.specs.declared.exchange.Sending.the-variants as sending
-use Rattle.exchange.specs.declared.exchange.Exchange.{Exchange}
-use Rattle.exchange.specs.declared.request.Primary.{Primary}
-use Rattle.exchange.specs.declared.request.Requested.{Requested}
+use Rattle.exchange.specs.declared.Sending.{Sending}
+use Rattle.exchange.specs.declared.Sending.the-variants as sending
+use Rattle.exchange.specs.declared.Exchange.{Exchange}
+use Rattle.exchange.specs.declared.Primary.{Primary}
+use Rattle.exchange.specs.declared.Requested.{Requested}
 use Rattle.exchange.proofs.Cases.{by-judge, by-open, by-reply}
 use Rattle.exchange.proofs.Tables.{set-one}
 use Rattle.exchange.proofs.Leaving.{judge-leaves}
@@ -70,7 +70,7 @@ isOnway onway = true
 isOnway sent = false
 isOnway failed = false
 
-abbrev at : List ℕ → IncomingStage → Incoming
+abbrev at : Header → IncomingStage → Incoming
 at h z = record { header = h; stage = z }
 
 -- ---- what events at the place make of it
@@ -81,7 +81,7 @@ kept-way i n fate.TooLong = refl
 kept-way i n (fate.Last k) = refl
 kept-way i n (fate.More k) = refl
 
-offered-way : (h : List ℕ) (z : IncomingStage) (b : Header) (n : ℕ) → way (incomingOffered (at h z) b n) ≡ wayAt z
+offered-way : (h : Header) (z : IncomingStage) (b : Header) (n : ℕ) → way (incomingOffered (at h z) b n) ≡ wayAt z
 unfolding incomingOffered goesOn
 offered-way h arrival.Free b n = refl
 offered-way h (arrival.Open timer next k) b n =
@@ -91,21 +91,21 @@ offered-way h (arrival.Complete k) b n = refl
 offered-way h (arrival.Replying k) b n = refl
 offered-way h (arrival.Replied k e) b n = refl
 
-first-way : (i : Incoming) (h : List ℕ) (n : ℕ) (f : Fate) → way i ≡ none → way (begunBy i h n f) ≡ none
+first-way : (i : Incoming) (h : Header) (n : ℕ) (f : Fate) → way i ≡ none → way (begunBy i h n f) ≡ none
 first-way i h n fate.Empty e = e
 first-way i h n fate.TooLong e = e
 first-way i h n (fate.Last k) e = refl
 first-way i h n (fate.More k) e = refl
 
-begun-way : (g : List ℕ) (z : IncomingStage) (h : List ℕ) (n : ℕ) → way (incomingBegun (at g z) h n) ≡ wayAt z
+begun-way : (g : Header) (z : IncomingStage) (h : Header) (n : ℕ) → way (incomingBegun (at g z) h n) ≡ wayAt z
 unfolding begins
-begun-way g arrival.Free h n = first-way (at g arrival.Free) h (headerOf h .number) (fateOf (headerOf h) 0 n) refl
-begun-way g (arrival.Open timer next k) h n = first-way (at g (arrival.Open timer next k)) h (headerOf h .number) (fateOf (headerOf h) 0 n) refl
+begun-way g arrival.Free h n = first-way (at g arrival.Free) h (h .number) (fateOf h 0 n) refl
+begun-way g (arrival.Open timer next k) h n = first-way (at g (arrival.Open timer next k)) h (h .number) (fateOf h 0 n) refl
 begun-way g (arrival.Complete k) h n = refl
 begun-way g (arrival.Replying k) h n = refl
 begun-way g (arrival.Replied k e) h n = refl
 
-ticked-way : (c : Terms) (h : List ℕ) (z : IncomingStage) → way (incomingTick c (at h z)) ≡ wayAt z
+ticked-way : (c : Terms) (h : Header) (z : IncomingStage) → way (incomingTick c (at h z)) ≡ wayAt z
 unfolding openTick
 ticked-way c h arrival.Free = refl
 ticked-way c h (arrival.Open timer next n) =
@@ -114,7 +114,7 @@ ticked-way c h (arrival.Complete n) = refl
 ticked-way c h (arrival.Replying n) = refl
 ticked-way c h (arrival.Replied n e) = refl
 
-sent-way : (h : List ℕ) (z : IncomingStage) → isOnway (wayAt z) ≡ true → way (incomingSent (at h z)) ≡ sent
+sent-way : (h : Header) (z : IncomingStage) → isOnway (wayAt z) ≡ true → way (incomingSent (at h z)) ≡ sent
 sent-way h arrival.Free e = absurd (false≢true e)
 sent-way h (arrival.Open timer next n) e = absurd (false≢true e)
 sent-way h (arrival.Complete n) e = absurd (false≢true e)
@@ -122,7 +122,7 @@ sent-way h (arrival.Replying n) e = refl
 sent-way h (arrival.Replied n end.Sent) e = absurd (false≢true e)
 sent-way h (arrival.Replied n end.Failed) e = absurd (false≢true e)
 
-failed-way : (h : List ℕ) (z : IncomingStage) → isOnway (wayAt z) ≡ true → way (incomingFailed (at h z)) ≡ failed
+failed-way : (h : Header) (z : IncomingStage) → isOnway (wayAt z) ≡ true → way (incomingFailed (at h z)) ≡ failed
 failed-way h arrival.Free e = absurd (false≢true e)
 failed-way h (arrival.Open timer next n) e = absurd (false≢true e)
 failed-way h (arrival.Complete n) e = absurd (false≢true e)
@@ -138,7 +138,7 @@ answered-way x p (arrival.Replying n) e o = absurd (o .ready (on-its-way n e))
 answered-way x p (arrival.Replied n z) e o = absurd (o .first (replied n z e))
 
 -- a message that can be released has no reply on its way
-ready-way : (h : List ℕ) (z : IncomingStage) → not (completeAt z) && not (repliedAt z) ≡ false → (isOnway (wayAt z) ≡ false) × (way (incomingReleased (at h z)) ≡ none)
+ready-way : (h : Header) (z : IncomingStage) → not (completeAt z) && not (repliedAt z) ≡ false → (isOnway (wayAt z) ≡ false) × (way (incomingReleased (at h z)) ≡ none)
 ready-way h arrival.Free e = absurd (false≢true (sym e))
 ready-way h (arrival.Open timer next n) e = absurd (false≢true (sym e))
 ready-way h (arrival.Complete n) e = (refl, refl)
@@ -190,7 +190,7 @@ module _ (c : Terms) (x : Exchange) (room : List ℕ) (four : Fours x) (p : ℕ)
   block-right h d = (
     by-judge c x h d room (λ j. way (incomingPlace (j .answer .exchange) p) ≡ s) (λ e. w .0) (λ e u. w .0) (λ q e r. w .0)
         (λ q e r m. put-same q _ (offered-way (incomingPlace x q .header) (incomingPlace x q .stage) (headerOf h) (length d)))
-        (λ q gone f e r m o v u t. put-same q _ (begun-way (incomingPlace x q .header) (incomingPlace x q .stage) h (length d))) (λ n t r m. w .0),
+        (λ q gone f e r m o v u t. put-same q _ (begun-way (incomingPlace x q .header) (incomingPlace x q .stage) (headerOf h) (length d))) (λ n t r m. w .0),
     w .1 ∙ ap (λ (q : Sending). replyFrom q p) (sym (judge-leaves c x h d room .sending)),
   )
 

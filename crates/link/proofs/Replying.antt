@@ -12,11 +12,11 @@ use Rattle.header.specs.declared.header.Header.{Header}
 use Rattle.room.specs.Room.{keptIn}
 use Rattle.room.specs.declared.Message.the-variants.{Send}
 use Rattle.place.specs.Incoming.{freshIncoming, primaryOf, incomingIsFree, incomingIsOpen, incomingLength, incomingSent}
-use Rattle.place.specs.declared.incoming.End.the-variants as end
-use Rattle.place.specs.declared.incoming.IncomingStage.{IncomingStage}
-use Rattle.place.specs.declared.incoming.IncomingStage.the-variants as stage
-use Rattle.place.specs.declared.incoming.Incoming.{Incoming}
-use Rattle.place.specs.declared.verdict.Verdict.{Verdict}
+use Rattle.place.specs.declared.End.the-variants as end
+use Rattle.place.specs.declared.IncomingStage.{IncomingStage}
+use Rattle.place.specs.declared.IncomingStage.the-variants as stage
+use Rattle.place.specs.declared.Incoming.{Incoming}
+use Rattle.place.specs.declared.Verdict.{Verdict}
 use Rattle.exchange.specs.Exchange.{incomingPlace, putIncoming, withSending}
 use Rattle.exchange.specs.Send.{outgoingOf, endedReply, sentBy, sentOf}
 use Rattle.exchange.specs.Request.{asking, badFunction, dataLong, notReady, replyAccepted, replyReady, replyOf}
@@ -24,14 +24,14 @@ use Rattle.exchange.specs.Reading.{wanted, replyStage, incomingReading}
 use Rattle.exchange.specs.Assembly as assembly
 use Rattle.exchange.specs.Refusals.{RepliesTo, Replied}
 use Rattle.exchange.proofs.Accepting.{accepted-replies}
-use Rattle.exchange.specs.declared.exchange.Sending.{Sending}
-use Rattle.exchange.specs.declared.exchange.Sending.the-variants as sending
-use Rattle.exchange.specs.declared.exchange.Exchange.{Exchange}
-use Rattle.exchange.specs.declared.reading.IncomingReading.{IncomingReading}
-use Rattle.exchange.specs.declared.reading.IncomingReading.the-variants as incoming
-use Rattle.exchange.specs.declared.reading.ReplyStage.the-variants.{Owed, Sent}
-use Rattle.exchange.specs.declared.request.Asked.the-variants.{Taken}
-use Rattle.exchange.specs.declared.send.Outgoing.the-variants.{Message}
+use Rattle.exchange.specs.declared.Sending.{Sending}
+use Rattle.exchange.specs.declared.Sending.the-variants as sending
+use Rattle.exchange.specs.declared.Exchange.{Exchange}
+use Rattle.exchange.specs.declared.IncomingReading.{IncomingReading}
+use Rattle.exchange.specs.declared.IncomingReading.the-variants as incoming
+use Rattle.exchange.specs.declared.ReplyStage.the-variants.{Owed, Sent}
+use Rattle.exchange.specs.declared.Asked.the-variants.{Taken}
+use Rattle.exchange.specs.declared.Outgoing.the-variants.{Message}
 use Rattle.link.specs.SameMessage.{Earns, one-higher, function-0}
 
 -- ---- the function of a reply

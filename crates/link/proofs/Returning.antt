@@ -12,8 +12,8 @@ use Rattle.room.specs.declared.Message.the-variants as message
 use Rattle.room.proofs.Keeping.{keep-elsewhere}
 use Rattle.room.proofs.Reading.{front-read}
 use Rattle.place.specs.Message.{Routed}
-use Rattle.place.specs.declared.verdict.Verdict.{Verdict}
-use Rattle.place.specs.declared.verdict.Standing.the-variants.{Given}
+use Rattle.place.specs.declared.Verdict.{Verdict}
+use Rattle.place.specs.declared.Standing.the-variants.{Given}
 use Rattle.line.specs.declared.phase.Phase.the-variants.{Idle}
 use Rattle.exchange.specs.Exchange.{putOwn, withSending}
 use Rattle.exchange.specs.Send.{endedOwn, sentOf}
@@ -22,18 +22,18 @@ use Rattle.exchange.specs.Request.{Asking, sendingBy, claimedAt}
 use Rattle.exchange.specs.Reading.{wanted, ownReading, incomingReading}
 use Rattle.exchange.specs.History.{acknowledged, reply}
 use Rattle.exchange.specs.Assembly.{headerIn, Receiver, freshReceiver, received, awaitingReceiver, Assembled, ReplyAssembled}
-use Rattle.exchange.proofs.Judged.{not-saved}
+use Rattle.exchange.proofs.Outcomes.{not-saved}
 use Rattle.exchange.proofs.Answering.{assembly-of-reply}
-use Rattle.exchange.specs.declared.exchange.Sending.the-variants as sending
-use Rattle.exchange.specs.declared.exchange.Exchange.{Exchange}
-use Rattle.exchange.specs.declared.reading.OwnReading.{OwnReading}
-use Rattle.exchange.specs.declared.reading.OwnReading.the-variants as own
-use Rattle.exchange.specs.declared.reading.IncomingReading.the-variants as incoming
-use Rattle.exchange.specs.declared.reading.ReplyStage.the-variants.{NotOwed, Owed, Sent}
-use Rattle.exchange.specs.declared.request.Primary.{Primary}
+use Rattle.exchange.specs.declared.Sending.the-variants as sending
+use Rattle.exchange.specs.declared.Exchange.{Exchange}
+use Rattle.exchange.specs.declared.OwnReading.{OwnReading}
+use Rattle.exchange.specs.declared.OwnReading.the-variants as own
+use Rattle.exchange.specs.declared.IncomingReading.the-variants as incoming
+use Rattle.exchange.specs.declared.ReplyStage.the-variants.{NotOwed, Owed, Sent}
+use Rattle.exchange.specs.declared.Primary.{Primary}
 use Rattle.link.specs.Reading.{replyBy}
 use Rattle.link.specs.SameMessage.{End, endOf, Pair, pair, carries, puts, outward, homeward, fresh, Linked, Lent, Sendable, Carriable, Earns, Returned, ComesBack, SameReply}
-use Rattle.link.specs.declared.setup.Setup.{Setup}
+use Rattle.link.specs.declared.Setup.{Setup}
 use Rattle.link.proofs.Calling.{unit, Sound}
 use Rattle.link.proofs.Blocks.{few, some}
 use Rattle.link.proofs.Carrying.{Arrived, all-carried}

@@ -13,7 +13,7 @@ use Rattle.link.specs.Answer.{noteNumber}
 use Rattle.link.specs.Run.{hears, told}
 use Rattle.link.specs.History.{Call, byte, tick, drained, primary, reply, free-own, free-incoming, Made, hearing, Track, termsIn, onExchangeIn}
 use Rattle.link.specs.Moves.{noted, tells, received, GoesUp}
-use Rattle.link.specs.declared.link.Link.{Link}
+use Rattle.link.specs.declared.Link.{Link}
 use Rattle.link.proofs.Stepping.{lent, accepted-calls}
 use Rattle.link.proofs.Listening.{OnTick, tick-tells, silent, up-calls}
 use Rattle.link.proofs.Saying.{saidIn, accepted-says}

@@ -6,26 +6,27 @@ use mathlib.Core.Bool.{Bool, true, false, cond, not}
 use mathlib.Core.List.{List, [], _∷_}
 use lib.ListN.{length}
 use Rattle.header.specs.Header.{headerOf}
+use Rattle.header.specs.declared.header.Header.{Header}
 use Rattle.settings.specs.declared.terms.Terms.{Terms}
 use Rattle.place.specs.Fate.{beginsPrimary, fateOf}
 use Rattle.place.specs.Incoming.{primaryOf, incomingIsReplied}
 use Rattle.place.specs.OwnHistory as own
 use Rattle.place.specs.IncomingHistory as incoming
-use Rattle.place.specs.declared.fate.Fate.{Fate}
-use Rattle.place.specs.declared.fate.Fate.the-variants as fate
+use Rattle.place.specs.declared.Fate.{Fate}
+use Rattle.place.specs.declared.Fate.the-variants as fate
 use Rattle.table.specs.Own.{freeOwn, replyFor}
 use Rattle.table.specs.Incoming.{messageFor, openAlike, freeIncoming}
-use Rattle.table.specs.declared.find.Found.{Found}
-use Rattle.table.specs.declared.find.Found.the-variants.{At, Nowhere}
+use Rattle.table.specs.declared.Found.{Found}
+use Rattle.table.specs.declared.Found.the-variants.{At, Nowhere}
 use Rattle.exchange.specs.Exchange.{incomingPlace, savedNow}
 use Rattle.exchange.specs.Judge.{Judging, thrown, isMisrouted, isDuplicate, replyBlock, messageBlock, beginsAt, inFree, inPlace, takesPlace, primaryBy, primaryBlock, orPrimary, ofMessage, noReplyBlock, ofReply, newBlock, judgeOf}
 use Rattle.exchange.specs.Request.{Asking, refused, badPrimary, badFunction, dataLong, isSending, notReady, openBy, openFree, openOf, replyAccepted, replyReady, replyOf}
 use Rattle.exchange.specs.History.{Call, block, tick, acknowledged, failed, primary, reply, free-own, free-incoming, called, Joined, sees, Track, next, track}
 use Rattle.exchange.specs.Watching.{ownSees, incomingSees, watch}
-use Rattle.exchange.specs.declared.exchange.Exchange.{Exchange}
-use Rattle.exchange.specs.declared.judge.Judged.{Judged}
-use Rattle.exchange.specs.declared.request.Primary.{Primary}
-use Rattle.exchange.specs.declared.request.Requested.{Requested}
+use Rattle.exchange.specs.declared.Exchange.{Exchange}
+use Rattle.exchange.specs.declared.Judged.{Judged}
+use Rattle.exchange.specs.declared.Primary.{Primary}
+use Rattle.exchange.specs.declared.Requested.{Requested}
 
 -- two choices on one test are alike where their results are
 alike-if : {A B : Type 0} (f : A → B) (t : Bool) (j k j' k' : A) → f j ≡ f j' → f k ≡ f k' → f (cond t j k) ≡ f (cond t j' k')
@@ -37,7 +38,7 @@ alike-if f false j k j' k' a b = b
 abbrev judgedIn : Judging → Judged
 judgedIn j = j .answer
 
-module _ (h d room other : List ℕ) where
+module _ (h : Header) (d room other : List ℕ) where
   free-alike : (f : Found) (x : Exchange) (last : Bool) → judgedIn (inFree f x h last d room) ≡ judgedIn (inFree f x h last d other)
   unfolding beginsAt thrown
   free-alike (At p) x last = refl
@@ -52,25 +53,26 @@ module _ (h d room other : List ℕ) where
   unfolding thrown takesPlace
   primary-alike fate.Empty x = refl
   primary-alike fate.TooLong x = refl
-  primary-alike (fate.Last n) x = place-alike (openAlike (x .incoming) (headerOf h)) x true
-  primary-alike (fate.More n) x = place-alike (openAlike (x .incoming) (headerOf h)) x false
+  primary-alike (fate.Last n) x = place-alike (openAlike (x .incoming) h) x true
+  primary-alike (fate.More n) x = place-alike (openAlike (x .incoming) h) x false
 
   message-alike : (f : Found) (x : Exchange) → judgedIn (ofMessage f x h d room) ≡ judgedIn (ofMessage f x h d other)
   unfolding messageBlock orPrimary primaryBlock thrown
   message-alike (At p) x = refl
   message-alike Nowhere x =
-      alike-if judgedIn (beginsPrimary (headerOf h)) _ _ _ _ (primary-alike (fateOf (headerOf h) 0 (length d)) x) refl
+      alike-if judgedIn (beginsPrimary h) _ _ _ _ (primary-alike (fateOf h 0 (length d)) x) refl
 
   reply-alike : (f : Found) (x : Exchange) → judgedIn (ofReply f x h d room) ≡ judgedIn (ofReply f x h d other)
   unfolding replyBlock noReplyBlock
   reply-alike (At p) x = refl
-  reply-alike Nowhere x = message-alike (messageFor (x .incoming) (headerOf h)) x
+  reply-alike Nowhere x = message-alike (messageFor (x .incoming) h) x
 
-  pub judge-alike : (c : Terms) (x : Exchange) → judgedIn (judgeOf c x h d room) ≡ judgedIn (judgeOf c x h d other)
-  unfolding judgeOf newBlock thrown
-  judge-alike c x =
-      alike-if judgedIn (isMisrouted c (headerOf h)) _ _ _ _ refl
-      (alike-if judgedIn (isDuplicate c x h) _ _ _ _ refl (reply-alike (replyFor (savedNow x h .own) (headerOf h)) (savedNow x h)))
+pub judge-alike : (h d room other : List ℕ) (c : Terms) (x : Exchange) → judgedIn (judgeOf c x h d room) ≡ judgedIn (judgeOf c x h d other)
+unfolding judgeOf newBlock thrown
+judge-alike h d room other c x =
+    alike-if judgedIn (isMisrouted c (headerOf h)) _ _ _ _ refl
+    (alike-if judgedIn (isDuplicate c x h) _ _ _ _ refl
+    (reply-alike (headerOf h) d room other (replyFor (savedNow x h .own) (headerOf h)) (savedNow x h)))
 
 -- ---- a request is answered alike
 

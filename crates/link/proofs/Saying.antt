@@ -10,22 +10,22 @@ use Rattle.line.specs.declared.step.Event.{Event}
 use Rattle.line.specs.declared.step.Event.the-variants as event
 use Rattle.exchange.specs.Flags.{noFlags}
 use Rattle.exchange.specs.Request.{openOf, replyOf, releaseOwn, releaseIncoming}
-use Rattle.exchange.specs.declared.flags.Flags.{Flags}
-use Rattle.exchange.specs.declared.exchange.Exchange.{Exchange}
-use Rattle.exchange.specs.declared.request.Asked.{Asked}
-use Rattle.exchange.specs.declared.request.Asked.the-variants as asked
+use Rattle.exchange.specs.declared.Flags.{Flags}
+use Rattle.exchange.specs.declared.Exchange.{Exchange}
+use Rattle.exchange.specs.declared.Asked.{Asked}
+use Rattle.exchange.specs.declared.Asked.the-variants as asked
 use Rattle.link.specs.State.{withLine}
 use Rattle.link.specs.Run.{Midway, noted, leaves, told, hears, heardBy, tickTold, places, drainedTurn}
 use Rattle.link.specs.Call.{asksBy, freesBy}
 use Rattle.link.specs.History.{Call, byte, tick, drained, primary, reply, free-own, free-incoming, called, Made, hearing, lentRoom, Track, answered}
 use Rattle.link.specs.Verdicts.{accepts, Accepted}
 use Rattle.link.specs.Moves.{Refused}
-use Rattle.link.specs.declared.answer.Outcome.{Outcome}
-use Rattle.link.specs.declared.answer.Outcome.the-variants as outcome
-use Rattle.link.specs.declared.answer.Note.{Note}
-use Rattle.link.specs.declared.answer.Note.the-variants as note
-use Rattle.link.specs.declared.answer.Answer.{Answer}
-use Rattle.link.specs.declared.link.Link.{Link}
+use Rattle.link.specs.declared.Outcome.{Outcome}
+use Rattle.link.specs.declared.Outcome.the-variants as outcome
+use Rattle.link.specs.declared.Note.{Note}
+use Rattle.link.specs.declared.Note.the-variants as note
+use Rattle.link.specs.declared.Answer.{Answer}
+use Rattle.link.specs.declared.Link.{Link}
 use Rattle.link.proofs.Cases.{by-gate, by-own, by-incoming}
 use Rattle.link.proofs.Listening.{Alone, heard-alone}
 

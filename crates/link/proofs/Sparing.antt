@@ -14,7 +14,7 @@ use Rattle.link.specs.Run.{hasNext}
 use Rattle.link.specs.History.{Call, byte, tick, drained, primary, reply, free-own, free-incoming, Made, hearing, toldOn, failsOn, onExchange, Track, answered, onExchangeIn}
 use Rattle.link.specs.Verdicts.{accepts, Accepted, FreesOwn, FreesIncoming}
 use Rattle.link.specs.Moves.{tells}
-use Rattle.link.specs.declared.link.Link.{Link}
+use Rattle.link.specs.declared.Link.{Link}
 use Rattle.link.proofs.Changing.{freesOwn, freesIncoming}
 use Rattle.link.proofs.Stepping.{Each, none, one-more, by-unless}
 use Rattle.link.proofs.Listening.{heard-told}

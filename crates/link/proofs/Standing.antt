@@ -24,15 +24,15 @@ use Rattle.exchange.specs.Theorems.{Reached}
 use Rattle.exchange.specs.Assembly.{headerIn, dataIn, Receiver, received}
 use Rattle.exchange.proofs.Areas.{always}
 use Rattle.exchange.proofs.Inside.{exchange-reached-in-range}
-use Rattle.exchange.specs.declared.exchange.Exchange.{Exchange}
+use Rattle.exchange.specs.declared.Exchange.{Exchange}
 use Rattle.link.specs.Answer.{outcomeNumber}
 use Rattle.link.specs.Setup.{panelOf, messagesOf, agreedBy, takenBy, settledOf, settingsInRange}
 use Rattle.link.specs.State.{startBy, startOf}
-use Rattle.link.specs.declared.setup.Setup.{Setup}
-use Rattle.link.specs.declared.setup.Settings.{Settings}
-use Rattle.link.specs.declared.setup.Settled.{Settled}
-use Rattle.link.specs.declared.setup.Settled.the-variants.{Settings as Kept, OutOfRange}
-use Rattle.link.specs.declared.answer.Outcome.the-variants.{Done}
+use Rattle.link.specs.declared.Setup.{Setup}
+use Rattle.link.specs.declared.Settings.{Settings}
+use Rattle.link.specs.declared.Settled.{Settled}
+use Rattle.link.specs.declared.Settled.the-variants.{Settings as Kept, OutOfRange}
+use Rattle.link.specs.declared.Outcome.the-variants.{Done}
 use Rattle.link.proofs.Calling.{Sound}
 
 -- ---- the settings

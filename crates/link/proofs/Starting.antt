@@ -20,12 +20,12 @@ use Rattle.link.specs.Answer.{outcomeNumber}
 use Rattle.link.specs.Setup.{panelOf, messagesOf, agreedBy, takenBy, settledOf, noSettings}
 use Rattle.link.specs.State.{freshLink, refusedAs, linkInRange, startBy, startOf}
 use Rattle.link.specs.Refusals.{Fits, SetupFits, StartRuled, start-4, start-0, inTicks, Started, NotStarted, StartExactly}
-use Rattle.link.specs.declared.setup.Setup.{Setup}
-use Rattle.link.specs.declared.setup.Settled.{Settled}
-use Rattle.link.specs.declared.setup.Settled.the-variants.{Settings as Kept, OutOfRange}
-use Rattle.link.specs.declared.answer.Answer.{Answer}
-use Rattle.link.specs.declared.answer.Refusal.the-variants as refusal
-use Rattle.link.specs.declared.answer.Outcome.the-variants as outcome
+use Rattle.link.specs.declared.Setup.{Setup}
+use Rattle.link.specs.declared.Settled.{Settled}
+use Rattle.link.specs.declared.Settled.the-variants.{Settings as Kept, OutOfRange}
+use Rattle.link.specs.declared.Answer.{Answer}
+use Rattle.link.specs.declared.Refusal.the-variants as refusal
+use Rattle.link.specs.declared.Outcome.the-variants as outcome
 use Rattle.link.proofs.Ranges.{link-fits}
 use Rattle.link.proofs.Refusing.{by-rows}
 

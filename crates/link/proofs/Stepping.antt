@@ -8,7 +8,7 @@ use Rattle.place.specs.OwnHistory as own
 use Rattle.exchange.specs.History as exchange
 use Rattle.exchange.specs.Rules.{Fours}
 use Rattle.exchange.specs.Watching.{ownSees, OwnAt, watch}
-use Rattle.exchange.specs.declared.exchange.Exchange.{Exchange}
+use Rattle.exchange.specs.declared.Exchange.{Exchange}
 use Rattle.exchange.proofs.Joining.{Good}
 use Rattle.exchange.proofs.Areas.{one-call, always}
 use Rattle.exchange.proofs.Watching.{own-watched-on}
@@ -16,8 +16,8 @@ use Rattle.link.specs.History.{Made, unlessRefused, onExchange, lentRoom
 use Rattle.link.specs.Inside.{Always}
 use Rattle.link.specs.Verdicts.{accepts, Accepted}
 use Rattle.link.specs.Moves.{Refused, UnderwayExactly}
-use Rattle.link.specs.declared.answer.Outcome.{Outcome}
-use Rattle.link.specs.declared.answer.Outcome.the-variants as outcome
+use Rattle.link.specs.declared.Outcome.{Outcome}
+use Rattle.link.specs.declared.Outcome.the-variants as outcome
 use Rattle.link.proofs.Telling.{exchange-goes}
 use Rattle.link.proofs.Reaching.{by-calls}
 use Rattle.link.proofs.Rooms.{track-alike}

@@ -23,19 +23,19 @@ use Rattle.place.specs.OwnHistory as own
 use Rattle.place.specs.IncomingHistory as incoming
 use Rattle.table.specs.Own.{ownAt, replyFor}
 use Rattle.table.specs.Incoming.{incomingAt, messageFor, openAlike, freeIncoming}
-use Rattle.table.specs.declared.find.Found.{Found}
-use Rattle.table.specs.declared.find.Found.the-variants.{At, Nowhere}
+use Rattle.table.specs.declared.Found.{Found}
+use Rattle.table.specs.declared.Found.the-variants.{At, Nowhere}
 use Rattle.exchange.specs.Note.{noteNumber as blockNote}
 use Rattle.exchange.specs.Exchange.{ownPlace, incomingPlace, putOwn, putIncoming, withSending, savedNow}
 use Rattle.exchange.specs.Send.{endedOwn, endedReply, sentBy, failedBy}
 use Rattle.exchange.specs.Judge.{judgeOf}
 use Rattle.exchange.specs.History as exchange
 use Rattle.exchange.specs.Watching.{foundAt, sentFrom, toldBy, ownSees, takenBy, seesBlock, incomingSees, watch}
-use Rattle.exchange.specs.declared.note.Note.{Note}
-use Rattle.exchange.specs.declared.note.Note.the-variants.{Kept, Misrouted, Duplicate, Stray as Strayed, NoPlace, TooLong, Empty}
-use Rattle.exchange.specs.declared.exchange.Sending.{Sending}
-use Rattle.exchange.specs.declared.exchange.Sending.the-variants as sending
-use Rattle.exchange.specs.declared.exchange.Exchange.{Exchange}
+use Rattle.exchange.specs.declared.Note.{Note}
+use Rattle.exchange.specs.declared.Note.the-variants.{Kept, Misrouted, Duplicate, Stray as Strayed, NoPlace, TooLong, Empty}
+use Rattle.exchange.specs.declared.Sending.{Sending}
+use Rattle.exchange.specs.declared.Sending.the-variants as sending
+use Rattle.exchange.specs.declared.Exchange.{Exchange}
 use Rattle.exchange.proofs.Leaving.{judge-leaves}
 use Rattle.link.specs.Answer.{noteNumber}
 use Rattle.link.specs.Run.{hasNext}

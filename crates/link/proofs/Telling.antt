@@ -10,16 +10,16 @@ use Rattle.line.specs.declared.step.Event.the-variants as event
 use Rattle.exchange.specs.History as exchange
 use Rattle.exchange.specs.Request.{openOf, replyOf, releaseOwn, releaseIncoming}
 use Rattle.exchange.proofs.Accepting.{refused-number, refused-changes-nothing}
-use Rattle.exchange.specs.declared.exchange.Exchange.{Exchange}
-use Rattle.exchange.specs.declared.request.Asked.{Asked}
-use Rattle.exchange.specs.declared.request.Asked.the-variants as asked
-use Rattle.exchange.specs.declared.request.Refusal.{Refusal}
+use Rattle.exchange.specs.declared.Exchange.{Exchange}
+use Rattle.exchange.specs.declared.Asked.{Asked}
+use Rattle.exchange.specs.declared.Asked.the-variants as asked
+use Rattle.exchange.specs.declared.Refusal.{Refusal}
 use Rattle.link.specs.State.{withLine}
 use Rattle.link.specs.Run.{Left, left, leaves, Midway, hasNext, told, hears, heardBy, tickTold, places, drainedTurn}
 use Rattle.link.specs.Call.{asksBy, freesBy}
 use Rattle.link.specs.History.{Call, byte, tick, drained, primary, reply, free-own, free-incoming, called, unlessRefused, toldOn, heardOn, failsOn, hearing, onExchange}
 use Rattle.link.specs.Inside.{exchangeOf, ExchangeGoes}
-use Rattle.link.specs.declared.link.Link.{Link}
+use Rattle.link.specs.declared.Link.{Link}
 use Rattle.link.proofs.Cases.{by-gate, by-own, by-incoming, by-sent}
 
 module _ (u : Link) (room : List ℕ) (j : exchange.Joined) where

@@ -16,10 +16,10 @@ use Rattle.place.specs.Own.{ownStanding, freeBy, givenBy, ownIsFree, ownHasVerd
 use Rattle.place.specs.OwnHistory as own
 use Rattle.place.specs.OwnTheorems.{Earned}
 use Rattle.place.proofs.Verdicts.{verdict-exactly, free-exactly}
-use Rattle.place.specs.declared.verdict.Verdict.{Verdict}
-use Rattle.place.specs.declared.verdict.Verdict.the-variants.{Sent, Answered, Declined, Other, Broken, NoReply, SendFailed}
-use Rattle.place.specs.declared.verdict.Standing.{Standing}
-use Rattle.place.specs.declared.verdict.Standing.the-variants as standing
+use Rattle.place.specs.declared.Verdict.{Verdict}
+use Rattle.place.specs.declared.Verdict.the-variants.{Sent, Answered, Declined, Other, Broken, NoReply, SendFailed}
+use Rattle.place.specs.declared.Standing.{Standing}
+use Rattle.place.specs.declared.Standing.the-variants as standing
 use Rattle.table.specs.Own.{replyFor}
 use Rattle.exchange.specs.Exchange.{ownPlace, incomingPlace, putOwn, putIncoming, withSending}
 use Rattle.exchange.specs.Tick.{tickOf}
@@ -30,11 +30,11 @@ use Rattle.exchange.specs.Rules.{Fours}
 use Rattle.exchange.specs.Refusals.{IsSending, OpenRuled, open-0, ReplyRuled, reply-0}
 use Rattle.exchange.specs.History.{Call, block, tick, acknowledged, failed, primary, reply, free-own, free-incoming, called}
 use Rattle.exchange.specs.Watching.{foundAt, takenAt, sentFrom, toldBy, acceptedAs, ownSees, OwnAt}
-use Rattle.exchange.specs.declared.exchange.Sending.{Sending}
-use Rattle.exchange.specs.declared.exchange.Sending.the-variants as sending
-use Rattle.exchange.specs.declared.exchange.Exchange.{Exchange}
-use Rattle.exchange.specs.declared.request.Primary.{Primary}
-use Rattle.exchange.specs.declared.request.Requested.{Requested}
+use Rattle.exchange.specs.declared.Sending.{Sending}
+use Rattle.exchange.specs.declared.Sending.the-variants as sending
+use Rattle.exchange.specs.declared.Exchange.{Exchange}
+use Rattle.exchange.specs.declared.Primary.{Primary}
+use Rattle.exchange.specs.declared.Requested.{Requested}
 use Rattle.exchange.proofs.Leaving.{judge-leaves}
 use Rattle.exchange.proofs.Cases.{by-open, by-reply}
 use Rattle.exchange.proofs.Refusing.{open-exactly, reply-exactly}

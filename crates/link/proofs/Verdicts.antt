@@ -15,19 +15,19 @@ use Rattle.place.specs.OwnHistory as own
 use Rattle.place.specs.OwnTheorems as place
 use Rattle.place.proofs.Verdicts as proved
 use Rattle.place.proofs.Falling.{verdict-falls as falls}
-use Rattle.place.specs.declared.verdict.Verdict.{Verdict}
-use Rattle.place.specs.declared.verdict.Verdict.the-variants.{Sent, Answered, Declined, Other, Broken, NoReply, SendFailed}
-use Rattle.place.specs.declared.verdict.Standing.{Standing}
-use Rattle.place.specs.declared.verdict.Standing.the-variants.{Free, Open, Given}
-use Rattle.place.specs.declared.own.Reply.{Reply}
-use Rattle.place.specs.declared.own.OwnStage.{OwnStage}
-use Rattle.place.specs.declared.own.OwnStage.the-variants as stage
-use Rattle.place.specs.declared.own.Own.{Own}
+use Rattle.place.specs.declared.Verdict.{Verdict}
+use Rattle.place.specs.declared.Verdict.the-variants.{Sent, Answered, Declined, Other, Broken, NoReply, SendFailed}
+use Rattle.place.specs.declared.Standing.{Standing}
+use Rattle.place.specs.declared.Standing.the-variants.{Free, Open, Given}
+use Rattle.place.specs.declared.Reply.{Reply}
+use Rattle.place.specs.declared.OwnStage.{OwnStage}
+use Rattle.place.specs.declared.OwnStage.the-variants as stage
+use Rattle.place.specs.declared.Own.{Own}
 use Rattle.exchange.specs.Exchange.{ownPlace}
 use Rattle.exchange.specs.Reading.{ownReading}
 use Rattle.exchange.specs.Theorems.{byVerdict}
-use Rattle.exchange.specs.declared.reading.OwnReading.{OwnReading}
-use Rattle.exchange.specs.declared.reading.OwnReading.the-variants as reading
+use Rattle.exchange.specs.declared.OwnReading.{OwnReading}
+use Rattle.exchange.specs.declared.OwnReading.the-variants as reading
 use Rattle.exchange.proofs.Holding.{OwnHolds}
 use Rattle.exchange.proofs.Areas.{always}
 use Rattle.link.specs.Reading.{ownOf, replyBy}

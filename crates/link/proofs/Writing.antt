@@ -35,21 +35,21 @@ use Rattle.line.specs.declared.step.Event.the-variants as event
 use Rattle.line.specs.declared.step.Step.{Step}
 use Rattle.exchange.specs.Send.{outgoingOf}
 use Rattle.exchange.specs.Request.{Asking, releaseOwn, releaseIncoming}
-use Rattle.exchange.specs.declared.send.Outgoing.{Outgoing}
-use Rattle.exchange.specs.declared.send.Outgoing.the-variants as outgoing
-use Rattle.exchange.specs.declared.request.Asked.the-variants as asked
-use Rattle.exchange.specs.declared.request.Requested.{Requested}
+use Rattle.exchange.specs.declared.Outgoing.{Outgoing}
+use Rattle.exchange.specs.declared.Outgoing.the-variants as outgoing
+use Rattle.exchange.specs.declared.Asked.the-variants as asked
+use Rattle.exchange.specs.declared.Requested.{Requested}
 use Rattle.link.specs.Answer.{outcomeNumber, noteNumber}
 use Rattle.link.specs.State.{withLine, refusedAs}
 use Rattle.link.specs.Run.{Left, Turn, left, leaves, Midway, codes, codesOut, noted, told, bytesBy, blockIn, heardBy, hears, tickTold, places, byteTurn, tickTurn, drainedTurn}
 use Rattle.link.specs.Call.{asks, freesBy, frees}
 use Rattle.link.specs.History.{Call, byte, tick, drained, primary, reply, free-own, free-incoming, called, unlessRefused, hearing, cameTo}
 use Rattle.link.specs.Refusals.{lends, OutputShort, asking, leaving, WritesOutput, headerHeard, FillsRoom, WritesOnly}
-use Rattle.link.specs.declared.answer.Refusal.the-variants as refusal
-use Rattle.link.specs.declared.answer.Outcome.{Outcome}
-use Rattle.link.specs.declared.answer.Outcome.the-variants as outcome
-use Rattle.link.specs.declared.answer.Answer.{Answer}
-use Rattle.link.specs.declared.link.Link.{Link}
+use Rattle.link.specs.declared.Refusal.the-variants as refusal
+use Rattle.link.specs.declared.Outcome.{Outcome}
+use Rattle.link.specs.declared.Outcome.the-variants as outcome
+use Rattle.link.specs.declared.Answer.{Answer}
+use Rattle.link.specs.declared.Link.{Link}
 use Rattle.link.proofs.Refusing.{opening, replying, behind, by-rows, by-asks, by-frees, heard-done, refused-changes-nothing, asked-number}
 use Rattle.link.proofs.Filling.{area-of, UpKept, heard-room, heard-kept, tick-room, opened-room, replied-room}
 

@@ -5,12 +5,12 @@ use Rattle.line.specs.declared.step.Event.{Event}
 use Rattle.line.specs.declared.step.Event.the-variants as event
 use Rattle.exchange.specs.Note.{noteNumber as blockNote}
 use Rattle.exchange.specs.Request.{refusalNumber as requestNumber}
-use Rattle.link.specs.declared.answer.Refusal.{Refusal}
-use Rattle.link.specs.declared.answer.Refusal.the-variants as refusal
-use Rattle.link.specs.declared.answer.Outcome.{Outcome}
-use Rattle.link.specs.declared.answer.Outcome.the-variants as outcome
-use Rattle.link.specs.declared.answer.Note.{Note}
-use Rattle.link.specs.declared.answer.Note.the-variants as note
+use Rattle.link.specs.declared.Refusal.{Refusal}
+use Rattle.link.specs.declared.Refusal.the-variants as refusal
+use Rattle.link.specs.declared.Outcome.{Outcome}
+use Rattle.link.specs.declared.Outcome.the-variants as outcome
+use Rattle.link.specs.declared.Note.{Note}
+use Rattle.link.specs.declared.Note.the-variants as note
 
 -- 01's table; 5 to 11 are the transactions'
 abbrev pub refusalNumber : Refusal → ℕ

@@ -5,20 +5,20 @@ use mathlib.Core.List.{List}
 use lib.ListN.{length}
 use Rattle.exchange.specs.Flags.{noFlags}
 use Rattle.exchange.specs.Request.{Asking, openOf as openExchange, replyOf as replyExchange, releaseOwn, releaseIncoming}
-use Rattle.exchange.specs.declared.exchange.Exchange.{Exchange}
-use Rattle.exchange.specs.declared.request.Asked.{Asked}
-use Rattle.exchange.specs.declared.request.Asked.the-variants as asked
-use Rattle.exchange.specs.declared.request.Primary.{Primary}
-use Rattle.exchange.specs.declared.request.Requested.{Requested}
+use Rattle.exchange.specs.declared.Exchange.{Exchange}
+use Rattle.exchange.specs.declared.Asked.{Asked}
+use Rattle.exchange.specs.declared.Asked.the-variants as asked
+use Rattle.exchange.specs.declared.Primary.{Primary}
+use Rattle.exchange.specs.declared.Requested.{Requested}
 use Rattle.link.specs.State.{withExchange, answerAs, refusedAs, linkInRange, gateOf}
 use Rattle.link.specs.Run.{Left, left, Turn, leaves, byteTurn, tickTurn, drainedTurn, sends}
-use Rattle.link.specs.declared.answer.Refusal.the-variants as refusal
-use Rattle.link.specs.declared.answer.Outcome.the-variants as outcome
-use Rattle.link.specs.declared.answer.Note.the-variants as note
-use Rattle.link.specs.declared.answer.Answer.{Answer}
-use Rattle.link.specs.declared.gate.Gate.{Gate}
-use Rattle.link.specs.declared.gate.Gate.the-variants as gate
-use Rattle.link.specs.declared.link.Link.{Link}
+use Rattle.link.specs.declared.Refusal.the-variants as refusal
+use Rattle.link.specs.declared.Outcome.the-variants as outcome
+use Rattle.link.specs.declared.Note.the-variants as note
+use Rattle.link.specs.declared.Answer.{Answer}
+use Rattle.link.specs.declared.Gate.{Gate}
+use Rattle.link.specs.declared.Gate.the-variants as gate
+use Rattle.link.specs.declared.Link.{Link}
 
 -- a call goes through, or is refused and leaves all as it was
 abbrev pub through : Gate → Link → List ℕ → List ℕ → Left → Left

@@ -18,9 +18,9 @@ use Rattle.link.specs.Run.{Left, blockBytes}
 use Rattle.link.specs.Reading.{sendingOf}
 use Rattle.link.specs.History.{Call, byte, tick, drained, primary, reply, free-own, free-incoming, called, Room, lentRoom, Made, cameTo, lineCalls, exchangeCalls, Track, answered, next, atStart}
 use Rattle.link.specs.Inside.{Reached}
-use Rattle.link.specs.declared.answer.Outcome.{Outcome}
-use Rattle.link.specs.declared.answer.Outcome.the-variants as outcome
-use Rattle.link.specs.declared.link.Link.{Link}
+use Rattle.link.specs.declared.Outcome.{Outcome}
+use Rattle.link.specs.declared.Outcome.the-variants as outcome
+use Rattle.link.specs.declared.Link.{Link}
 
 -- ---- what leaves in a call: nothing, one or two codes, or a whole block, which is longer
 

@@ -18,15 +18,15 @@ use Rattle.place.specs.OwnHistory as own
 use Rattle.place.specs.IncomingHistory as incoming
 use Rattle.exchange.specs.History as exchange
 use Rattle.exchange.specs.Watching.{ownSees, incomingSees, watch}
-use Rattle.exchange.specs.declared.exchange.Exchange.{Exchange}
-use Rattle.exchange.specs.declared.request.Primary.{Primary}
+use Rattle.exchange.specs.declared.Exchange.{Exchange}
+use Rattle.exchange.specs.declared.Primary.{Primary}
 use Rattle.link.specs.State.{freshLink}
 use Rattle.link.specs.Run.{Left, left, hears, hasNext}
 use Rattle.link.specs.Call.{byteCall, tickCall, drainedCall, openCall, replyCall, releaseOwnCall, releaseIncomingCall}
-use Rattle.link.specs.declared.setup.Settings.{Settings}
-use Rattle.link.specs.declared.answer.Outcome.{Outcome}
-use Rattle.link.specs.declared.answer.Outcome.the-variants as outcome
-use Rattle.link.specs.declared.link.Link.{Link}
+use Rattle.link.specs.declared.Settings.{Settings}
+use Rattle.link.specs.declared.Outcome.{Outcome}
+use Rattle.link.specs.declared.Outcome.the-variants as outcome
+use Rattle.link.specs.declared.Link.{Link}
 
 -- ---- the calls
 

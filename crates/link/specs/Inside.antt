@@ -24,17 +24,17 @@ use Rattle.exchange.specs.Theorems.{Reached as ExchangeReached}
 use Rattle.exchange.specs.Watching.{OwnAt, IncomingAt}
 use Rattle.exchange.specs.Request.{isSending}
 use Rattle.exchange.specs.Send.{outgoingOf}
-use Rattle.exchange.specs.declared.send.Outgoing.the-variants as outgoing
+use Rattle.exchange.specs.declared.Outgoing.the-variants as outgoing
 use Rattle.link.specs.Setup.{settledOf}
 use Rattle.link.specs.State.{linkInRange}
 use Rattle.link.specs.Run.{Left, blockBytes}
 use Rattle.link.specs.History.{Call, called, Room, kept, other, Made, hearing, cameTo, lineCalls, exchangeCalls, Track, lineTrack, exchangeTrack, limitsIn, termsIn, track, atStart}
-use Rattle.link.specs.declared.setup.Setup.{Setup}
-use Rattle.link.specs.declared.setup.Settings.{Settings}
-use Rattle.link.specs.declared.setup.Settled.the-variants as settled
-use Rattle.link.specs.declared.answer.Refusal.the-variants as refusal
-use Rattle.link.specs.declared.answer.Outcome.the-variants as outcome
-use Rattle.link.specs.declared.link.Link.{Link}
+use Rattle.link.specs.declared.Setup.{Setup}
+use Rattle.link.specs.declared.Settings.{Settings}
+use Rattle.link.specs.declared.Settled.the-variants as settled
+use Rattle.link.specs.declared.Refusal.the-variants as refusal
+use Rattle.link.specs.declared.Outcome.the-variants as outcome
+use Rattle.link.specs.declared.Link.{Link}
 
 -- ---- what can be reached
 

@@ -26,17 +26,17 @@ use Rattle.exchange.specs.Refusals.{numberGiven, AsAsked}
 use Rattle.exchange.specs.Rules.{LowestAt, OfReply, OfMessage, ReplyHere, MessageHere, AlikeAt, FreeAt, AlikeHere, Ruled}
 use Rattle.exchange.specs.Theorems.{ThrowsOut as BlockThrowsOut, Flagged}
 use Rattle.exchange.specs.Watching.{sentFrom, acceptedAs, freedSeen}
-use Rattle.exchange.specs.declared.exchange.Exchange.{Exchange}
-use Rattle.exchange.specs.declared.reading.ReplyStage.{ReplyStage}
-use Rattle.exchange.specs.declared.reading.ReplyStage.the-variants as stage
-use Rattle.exchange.specs.declared.request.Primary.{Primary}
+use Rattle.exchange.specs.declared.Exchange.{Exchange}
+use Rattle.exchange.specs.declared.ReplyStage.{ReplyStage}
+use Rattle.exchange.specs.declared.ReplyStage.the-variants as stage
+use Rattle.exchange.specs.declared.Primary.{Primary}
 use Rattle.link.specs.Answer.{noteNumber}
 use Rattle.link.specs.Run.{hasNext}
 use Rattle.link.specs.History.{Call, byte, tick, drained, primary, reply, free-own, free-incoming, Made, hearing, lentRoom, Track, termsIn, answered, next}
 use Rattle.link.specs.Inside.{Always}
 use Rattle.link.specs.Verdicts.{AtEach, accepts, Accepted, FreesOwn, FreesIncoming, replyStands, replyFrom}
-use Rattle.link.specs.declared.answer.Outcome.the-variants as outcome
-use Rattle.link.specs.declared.link.Link.{Link}
+use Rattle.link.specs.declared.Outcome.the-variants as outcome
+use Rattle.link.specs.declared.Link.{Link}
 
 -- ---- what comes of a call
 

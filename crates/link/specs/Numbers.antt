@@ -5,14 +5,14 @@
 use Prim.Native.Nat.{ℕ, _≤_}
 use mathlib.Core.List.{List, [], _∷_}
 use Rattle.exchange.specs.Numbers.{numberShown, NumbersSeen, latestSeen, numbersAtStart, NumbersAre, NumberNew}
-use Rattle.exchange.specs.declared.reading.OwnReading.{OwnReading}
-use Rattle.exchange.specs.declared.request.Primary.{Primary}
+use Rattle.exchange.specs.declared.OwnReading.{OwnReading}
+use Rattle.exchange.specs.declared.Primary.{Primary}
 use Rattle.link.specs.Reading.{ownOf}
 use Rattle.link.specs.History.{Call, byte, tick, drained, primary, reply, free-own, free-incoming, Made, Track, answered, next, atStart}
 use Rattle.link.specs.Inside.{Reached}
 use Rattle.link.specs.Moves.{Opens}
-use Rattle.link.specs.declared.answer.Outcome.{Outcome}
-use Rattle.link.specs.declared.answer.Outcome.the-variants.{Done, Taken, Refused}
+use Rattle.link.specs.declared.Outcome.{Outcome}
+use Rattle.link.specs.declared.Outcome.the-variants.{Done, Taken, Refused}
 
 -- a primary that was accepted shows its number; no other call gives one
 abbrev pub lastBy : Outcome → (ℕ → OwnReading) → ℕ → ℕ

@@ -6,11 +6,11 @@ use Rattle.room.specs.Room.{bytesIn}
 use Rattle.room.specs.declared.Message.the-variants as message
 use Rattle.exchange.specs.Reading.{ownReading, incomingReading}
 use Rattle.exchange.specs.Request.{isSending}
-use Rattle.exchange.specs.declared.reading.OwnReading.{OwnReading}
-use Rattle.exchange.specs.declared.reading.OwnReading.the-variants as own
-use Rattle.exchange.specs.declared.reading.IncomingReading.{IncomingReading}
-use Rattle.exchange.specs.declared.reading.IncomingReading.the-variants as incoming
-use Rattle.link.specs.declared.link.Link.{Link}
+use Rattle.exchange.specs.declared.OwnReading.{OwnReading}
+use Rattle.exchange.specs.declared.OwnReading.the-variants as own
+use Rattle.exchange.specs.declared.IncomingReading.{IncomingReading}
+use Rattle.exchange.specs.declared.IncomingReading.the-variants as incoming
+use Rattle.link.specs.declared.Link.{Link}
 
 abbrev pub ownOf : Link → ℕ → OwnReading
 ownOf u p = ownReading (u .exchange) p

@@ -22,32 +22,32 @@ use Rattle.line.specs.declared.line.Line.{Line}
 use Rattle.line.specs.declared.step.Out.the-variants as out
 use Rattle.line.specs.declared.step.Event.the-variants as event
 use Rattle.place.specs.Range.{ownInRange, incomingInRange}
-use Rattle.place.specs.declared.own.OwnStage.{OwnStage}
-use Rattle.place.specs.declared.own.OwnStage.the-variants as own
-use Rattle.place.specs.declared.own.Own.{Own}
-use Rattle.place.specs.declared.incoming.IncomingStage.{IncomingStage}
-use Rattle.place.specs.declared.incoming.IncomingStage.the-variants as incoming
-use Rattle.place.specs.declared.incoming.Incoming.{Incoming}
+use Rattle.place.specs.declared.OwnStage.{OwnStage}
+use Rattle.place.specs.declared.OwnStage.the-variants as own
+use Rattle.place.specs.declared.Own.{Own}
+use Rattle.place.specs.declared.IncomingStage.{IncomingStage}
+use Rattle.place.specs.declared.IncomingStage.the-variants as incoming
+use Rattle.place.specs.declared.Incoming.{Incoming}
 use Rattle.exchange.specs.Exchange.{ownPlace, incomingPlace}
 use Rattle.exchange.specs.Flags.{noFlags}
 use Rattle.exchange.specs.Range.{sendingInRange}
 use Rattle.exchange.specs.Rules.{Fours, LowestAt, OfReply, OfMessage, ReplyHere, MessageHere, AlikeAt, AlikeHere, FreeAt, bytesBefore}
 use Rattle.exchange.specs.Refusals.{NoVerdict, NotReady, OpenRuled, ReplyRuled, ReleaseRuled}
-use Rattle.exchange.specs.declared.exchange.Sending.{Sending}
-use Rattle.exchange.specs.declared.exchange.Sending.the-variants as sending
-use Rattle.exchange.specs.declared.exchange.Exchange.{Exchange}
+use Rattle.exchange.specs.declared.Sending.{Sending}
+use Rattle.exchange.specs.declared.Sending.the-variants as sending
+use Rattle.exchange.specs.declared.Exchange.{Exchange}
 use Rattle.link.specs.Answer.{outcomeNumber, noteNumber}
 use Rattle.link.specs.Setup.{noSettings, settingsInRange}
 use Rattle.link.specs.State.{freshLink, refusedAs, linkInRange, startOf}
 use Rattle.link.specs.Run.{Left, left, codes, byteTurn, tickTurn, drainedTurn}
 use Rattle.link.specs.History.{Call, byte, tick, drained, primary, reply, free-own, free-incoming, called, unlessRefused, hearing, cameTo}
-use Rattle.link.specs.declared.setup.Setup.{Setup}
-use Rattle.link.specs.declared.setup.Settings.{Settings}
-use Rattle.link.specs.declared.answer.Refusal.{Refusal}
-use Rattle.link.specs.declared.answer.Refusal.the-variants as refusal
-use Rattle.link.specs.declared.answer.Outcome.the-variants as outcome
-use Rattle.link.specs.declared.answer.Answer.{Answer}
-use Rattle.link.specs.declared.link.Link.{Link}
+use Rattle.link.specs.declared.Setup.{Setup}
+use Rattle.link.specs.declared.Settings.{Settings}
+use Rattle.link.specs.declared.Refusal.{Refusal}
+use Rattle.link.specs.declared.Refusal.the-variants as refusal
+use Rattle.link.specs.declared.Outcome.the-variants as outcome
+use Rattle.link.specs.declared.Answer.{Answer}
+use Rattle.link.specs.declared.Link.{Link}
 
 -- ---- "A refusal reports 0 bytes out, note 20, state and memory untouched."
 

@@ -25,23 +25,23 @@ use Rattle.exchange.specs.Flags.{noFlags}
 use Rattle.exchange.specs.Send.{outgoingOf, sentOf, failedOf}
 use Rattle.exchange.specs.Tick.{tickOf as ticksOf}
 use Rattle.exchange.specs.Judge.{Judging, judgeOf}
-use Rattle.exchange.specs.declared.flags.Flags.{Flags}
-use Rattle.exchange.specs.declared.exchange.Exchange.{Exchange}
-use Rattle.exchange.specs.declared.send.Outgoing.{Outgoing}
-use Rattle.exchange.specs.declared.send.Outgoing.the-variants as outgoing
-use Rattle.exchange.specs.declared.tick.Told.{Told}
-use Rattle.exchange.specs.declared.request.Asked.{Asked}
-use Rattle.exchange.specs.declared.request.Asked.the-variants as asked
+use Rattle.exchange.specs.declared.Flags.{Flags}
+use Rattle.exchange.specs.declared.Exchange.{Exchange}
+use Rattle.exchange.specs.declared.Outgoing.{Outgoing}
+use Rattle.exchange.specs.declared.Outgoing.the-variants as outgoing
+use Rattle.exchange.specs.declared.Told.{Told}
+use Rattle.exchange.specs.declared.Asked.{Asked}
+use Rattle.exchange.specs.declared.Asked.the-variants as asked
 use Rattle.link.specs.Answer.{noteBy}
 use Rattle.link.specs.State.{withLine, withHeard, withExchange, withBlock, answerAs}
-use Rattle.link.specs.declared.run.Affair.{Affair}
-use Rattle.link.specs.declared.run.Affair.the-variants as affair
-use Rattle.link.specs.declared.answer.Outcome.{Outcome}
-use Rattle.link.specs.declared.answer.Outcome.the-variants as outcome
-use Rattle.link.specs.declared.answer.Note.{Note}
-use Rattle.link.specs.declared.answer.Note.the-variants as note
-use Rattle.link.specs.declared.answer.Answer.{Answer}
-use Rattle.link.specs.declared.link.Link.{Link}
+use Rattle.link.specs.declared.Affair.{Affair}
+use Rattle.link.specs.declared.Affair.the-variants as affair
+use Rattle.link.specs.declared.Outcome.{Outcome}
+use Rattle.link.specs.declared.Outcome.the-variants as outcome
+use Rattle.link.specs.declared.Note.{Note}
+use Rattle.link.specs.declared.Note.the-variants as note
+use Rattle.link.specs.declared.Answer.{Answer}
+use Rattle.link.specs.declared.Link.{Link}
 
 -- ---- what a call leaves
 

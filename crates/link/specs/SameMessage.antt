@@ -12,23 +12,23 @@ use Rattle.header.specs.declared.header.Header.{Header}
 use Rattle.cut.specs.Blocks.{blockCount}
 use Rattle.line.specs.Line.{freshLine}
 use Rattle.place.specs.Own.{noReply}
-use Rattle.place.specs.declared.verdict.Verdict.{Verdict}
-use Rattle.place.specs.declared.verdict.Verdict.the-variants.{Sent, Answered, Declined}
-use Rattle.place.specs.declared.verdict.Standing.the-variants.{Open, Given}
-use Rattle.exchange.specs.declared.reading.OwnReading.the-variants as own
-use Rattle.exchange.specs.declared.reading.IncomingReading.the-variants as incoming
-use Rattle.exchange.specs.declared.reading.ReplyStage.the-variants as reply
-use Rattle.exchange.specs.declared.request.Primary.{Primary}
+use Rattle.place.specs.declared.Verdict.{Verdict}
+use Rattle.place.specs.declared.Verdict.the-variants.{Sent, Answered, Declined}
+use Rattle.place.specs.declared.Standing.the-variants.{Open, Given}
+use Rattle.exchange.specs.declared.OwnReading.the-variants as own
+use Rattle.exchange.specs.declared.IncomingReading.the-variants as incoming
+use Rattle.exchange.specs.declared.ReplyStage.the-variants as reply
+use Rattle.exchange.specs.declared.Primary.{Primary}
 use Rattle.link.specs.Answer.{noteNumber}
 use Rattle.link.specs.State.{startOf}
 use Rattle.link.specs.Run.{Left}
 use Rattle.link.specs.Call.{byteCall, drainedCall, openCall, replyCall}
 use Rattle.link.specs.Reading.{ownOf, replyData, incomingOf, incomingData, sendingOf}
-use Rattle.link.specs.declared.setup.Setup.{Setup}
-use Rattle.link.specs.declared.answer.Outcome.the-variants.{Done, Taken}
-use Rattle.link.specs.declared.answer.Note.{Note}
-use Rattle.link.specs.declared.answer.Note.the-variants as note
-use Rattle.link.specs.declared.link.Link.{Link}
+use Rattle.link.specs.declared.Setup.{Setup}
+use Rattle.link.specs.declared.Outcome.the-variants.{Done, Taken}
+use Rattle.link.specs.declared.Note.{Note}
+use Rattle.link.specs.declared.Note.the-variants as note
+use Rattle.link.specs.declared.Link.{Link}
 
 -- ---- one end
 

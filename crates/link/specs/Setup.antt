@@ -12,10 +12,10 @@ use Rattle.settings.specs.declared.limits.Taken.the-variants as taken
 use Rattle.settings.specs.declared.terms.MessagePanel.{MessagePanel}
 use Rattle.settings.specs.declared.terms.Agreed.{Agreed}
 use Rattle.settings.specs.declared.terms.Agreed.the-variants as agreed
-use Rattle.link.specs.declared.setup.Setup.{Setup}
-use Rattle.link.specs.declared.setup.Settings.{Settings}
-use Rattle.link.specs.declared.setup.Settled.{Settled}
-use Rattle.link.specs.declared.setup.Settled.the-variants.{Settings as Kept, OutOfRange}
+use Rattle.link.specs.declared.Setup.{Setup}
+use Rattle.link.specs.declared.Settings.{Settings}
+use Rattle.link.specs.declared.Settled.{Settled}
+use Rattle.link.specs.declared.Settled.the-variants.{Settings as Kept, OutOfRange}
 
 -- the line's settings; "host = slave, equipment = master"
 abbrev pub panelOf : Setup → Panel

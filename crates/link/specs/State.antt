@@ -12,23 +12,23 @@ use Rattle.line.specs.declared.line.Line.{Line}
 use Rattle.exchange.specs.Exchange.{freshExchange}
 use Rattle.exchange.specs.Range.{exchangeInRange}
 use Rattle.exchange.specs.Flags.{noFlags}
-use Rattle.exchange.specs.declared.flags.Flags.{Flags}
-use Rattle.exchange.specs.declared.exchange.Exchange.{Exchange}
+use Rattle.exchange.specs.declared.Flags.{Flags}
+use Rattle.exchange.specs.declared.Exchange.{Exchange}
 use Rattle.link.specs.Setup.{settledOf, noSettings, settingsInRange}
-use Rattle.link.specs.declared.setup.Setup.{Setup}
-use Rattle.link.specs.declared.setup.Settings.{Settings}
-use Rattle.link.specs.declared.setup.Settled.{Settled}
-use Rattle.link.specs.declared.setup.Settled.the-variants as settled
-use Rattle.link.specs.declared.answer.Refusal.{Refusal}
-use Rattle.link.specs.declared.answer.Refusal.the-variants as refusal
-use Rattle.link.specs.declared.answer.Outcome.{Outcome}
-use Rattle.link.specs.declared.answer.Outcome.the-variants as outcome
-use Rattle.link.specs.declared.answer.Note.{Note}
-use Rattle.link.specs.declared.answer.Note.the-variants as note
-use Rattle.link.specs.declared.answer.Answer.{Answer}
-use Rattle.link.specs.declared.gate.Gate.{Gate}
-use Rattle.link.specs.declared.gate.Gate.the-variants as gate
-use Rattle.link.specs.declared.link.Link.{Link}
+use Rattle.link.specs.declared.Setup.{Setup}
+use Rattle.link.specs.declared.Settings.{Settings}
+use Rattle.link.specs.declared.Settled.{Settled}
+use Rattle.link.specs.declared.Settled.the-variants as settled
+use Rattle.link.specs.declared.Refusal.{Refusal}
+use Rattle.link.specs.declared.Refusal.the-variants as refusal
+use Rattle.link.specs.declared.Outcome.{Outcome}
+use Rattle.link.specs.declared.Outcome.the-variants as outcome
+use Rattle.link.specs.declared.Note.{Note}
+use Rattle.link.specs.declared.Note.the-variants as note
+use Rattle.link.specs.declared.Answer.{Answer}
+use Rattle.link.specs.declared.Gate.{Gate}
+use Rattle.link.specs.declared.Gate.the-variants as gate
+use Rattle.link.specs.declared.Link.{Link}
 
 -- the line idle, no place in use
 abbrev pub freshLink : Settings → ℕ → Link

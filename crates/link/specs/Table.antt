@@ -10,12 +10,12 @@ use Rattle.line.specs.Table.{LimitMet}
 use Rattle.line.specs.Codes.{noteOf}
 use Rattle.line.specs.declared.step.Event.{Event}
 use Rattle.line.specs.declared.phase.Fault.the-variants as fault
-use Rattle.exchange.specs.declared.note.Note.the-variants as block
-use Rattle.exchange.specs.declared.request.Refusal.the-variants as request
+use Rattle.exchange.specs.declared.Note.the-variants as block
+use Rattle.exchange.specs.declared.Refusal.the-variants as request
 use Rattle.link.specs.Answer.{refusalNumber, outcomeNumber, noteNumber, noteBy}
-use Rattle.link.specs.declared.answer.Refusal.the-variants as refusal
-use Rattle.link.specs.declared.answer.Outcome.the-variants as outcome
-use Rattle.link.specs.declared.answer.Note.the-variants as note
+use Rattle.link.specs.declared.Refusal.the-variants as refusal
+use Rattle.link.specs.declared.Outcome.the-variants as outcome
+use Rattle.link.specs.declared.Note.the-variants as note
 
 -- the table
 pub record RefusalNumbers : Type 0 where

@@ -14,26 +14,26 @@ use Rattle.place.specs.Own.{ownStanding}
 use Rattle.place.specs.OwnHistory as own
 use Rattle.place.specs.OwnTheorems.{Earned, verdictLimit, silenceLimit}
 use Rattle.place.specs.IncomingTheorems.{Breaks}
-use Rattle.place.specs.declared.verdict.Verdict.{Verdict}
-use Rattle.place.specs.declared.verdict.Verdict.the-variants.{Answered}
-use Rattle.place.specs.declared.verdict.Standing.{Standing}
-use Rattle.place.specs.declared.verdict.Standing.the-variants.{Free, Given}
+use Rattle.place.specs.declared.Verdict.{Verdict}
+use Rattle.place.specs.declared.Verdict.the-variants.{Answered}
+use Rattle.place.specs.declared.Standing.{Standing}
+use Rattle.place.specs.declared.Standing.the-variants.{Free, Given}
 use Rattle.exchange.specs.Exchange.{ownPlace, incomingPlace}
 use Rattle.exchange.specs.Rules.{OfMessage}
 use Rattle.exchange.specs.Theorems.{Reached as ExchangeReached, byVerdict}
-use Rattle.exchange.specs.declared.reading.OwnReading.{OwnReading}
-use Rattle.exchange.specs.declared.reading.OwnReading.the-variants as reading
-use Rattle.exchange.specs.declared.reading.IncomingReading.{IncomingReading}
-use Rattle.exchange.specs.declared.reading.IncomingReading.the-variants as arrival
-use Rattle.exchange.specs.declared.reading.ReplyStage.{ReplyStage}
-use Rattle.exchange.specs.declared.reading.ReplyStage.the-variants.{NotOwed, Owed, OnItsWay, Sent, Failed}
-use Rattle.exchange.specs.declared.exchange.Sending.{Sending}
-use Rattle.exchange.specs.declared.exchange.Sending.the-variants as sending
+use Rattle.exchange.specs.declared.OwnReading.{OwnReading}
+use Rattle.exchange.specs.declared.OwnReading.the-variants as reading
+use Rattle.exchange.specs.declared.IncomingReading.{IncomingReading}
+use Rattle.exchange.specs.declared.IncomingReading.the-variants as arrival
+use Rattle.exchange.specs.declared.ReplyStage.{ReplyStage}
+use Rattle.exchange.specs.declared.ReplyStage.the-variants.{NotOwed, Owed, OnItsWay, Sent, Failed}
+use Rattle.exchange.specs.declared.Sending.{Sending}
+use Rattle.exchange.specs.declared.Sending.the-variants as sending
 use Rattle.link.specs.Reading.{ownOf, incomingOf, replyData, incomingData}
 use Rattle.link.specs.History.{free-own, free-incoming, Made, Track, exchangeTrack, termsIn, answered, next, track}
 use Rattle.link.specs.Inside.{Always, ReachedBack}
-use Rattle.link.specs.declared.answer.Outcome.{Outcome}
-use Rattle.link.specs.declared.answer.Outcome.the-variants as outcome
+use Rattle.link.specs.declared.Outcome.{Outcome}
+use Rattle.link.specs.declared.Outcome.the-variants as outcome
 
 -- ---- what a user reads of an own place
 

@@ -51,12 +51,12 @@ fn read(field: &[u8]) {
 
 // Prints the refusal number alone, or 0, the header and the data.
 fn read_bytes(bytes: &[u8]) {
-    match block::read_block(bytes) {
+    match codec::read_block(bytes) {
         Read::Block { header, length: _ } => {
             show::text(b"0");
             show_header(header);
             show::text(b" ");
-            show::hex(block::block_data(bytes));
+            show::hex(codec::block_data(bytes));
         }
         Read::Refused(why) => show_refusal(why),
     }
@@ -64,7 +64,7 @@ fn read_bytes(bytes: &[u8]) {
 
 // Prints a refusal as its number.
 fn show_refusal(why: Refusal) {
-    show::decimal(why.number() as usize);
+    show::decimal(codec::refusal_number(why) as usize);
 }
 
 // Prints R DEVICE W STREAM FUNCTION E NUMBER SYSTEM, a space before each.
@@ -124,7 +124,7 @@ fn write_bytes(length: usize, front: &[u8], out: &mut [u8]) {
     let mut ten = [0u8; 10];
     bytes::copy(&front[0..10], &mut ten);
     let header = Header::from_bytes(ten);
-    match block::write_block(length, header, &front[10..], out) {
+    match codec::write_block(length, header, &front[10..], out) {
         Written::Bytes(n) => show_written(out, n),
         Written::Refused(why) => {
             show_refusal(why);

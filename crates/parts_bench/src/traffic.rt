@@ -142,7 +142,7 @@ fn take_settings(host: bool, fields: &[u8]) {
 fn run_calls(terms: Terms, last: u16, calls: &[u8]) {
     let mut room = [0xEEu8; 36864];
     let mut bytes = [0u8; 5000];
-    let mut exchange = Exchange::fresh(last);
+    let mut exchange = clerk::fresh(last);
     let mut at: usize = 0;
     while at < calls.len() {
         let start = at + 1;
@@ -372,19 +372,19 @@ fn make(
 ) -> Exchange {
     match call {
         Call::Open { primary, count } => {
-            asked(exchange.open(terms, primary, text::first(bytes, count), room))
+            asked(clerk::open(exchange, terms, primary, text::first(bytes, count), room))
         }
         Call::Reply {
             place,
             function,
             count,
-        } => asked(exchange.reply(place, function, text::first(bytes, count), room)),
-        Call::Sent => told(exchange.sent()),
-        Call::Failed => told(exchange.failed()),
+        } => asked(clerk::reply(exchange, place, function, text::first(bytes, count), room)),
+        Call::Sent => told(clerk::sent(exchange)),
+        Call::Failed => told(clerk::failed(exchange)),
         Call::Block { count } => judge(terms, exchange, text::first(bytes, count), room),
         Call::Ticks(count) => tick_on(terms, exchange, count),
-        Call::ReleaseOwn(place) => released(exchange.release_own(place)),
-        Call::ReleaseIncoming(place) => released(exchange.release_incoming(place)),
+        Call::ReleaseOwn(place) => released(clerk::release_own(exchange, place)),
+        Call::ReleaseIncoming(place) => released(clerk::release_incoming(exchange, place)),
         Call::SetLast(last) => set_last(exchange, last),
         Call::Look(look) => {
             show_look(exchange, look, room);
@@ -400,9 +400,9 @@ fn asked(requested: Requested) -> Exchange {
     match asked {
         Asked::Taken(place) => {
             show::decimal(place);
-            show_outgoing(requested.exchange.outgoing());
+            show_outgoing(clerk::outgoing(requested.exchange));
         }
-        Asked::Refused(why) => show::decimal(why.number() as usize),
+        Asked::Refused(why) => show::decimal(clerk::refusal_number(why) as usize),
     }
     requested.exchange
 }
@@ -444,7 +444,7 @@ fn judge(terms: Terms, exchange: Exchange, block: &[u8], room: &mut [u8]) -> Exc
     }
     let mut ten = [0u8; 10];
     bytes::copy(&block[0..10], &mut ten);
-    let judged = exchange.judge(terms, ten, &block[10..], room);
+    let judged = clerk::judge(exchange, terms, ten, &block[10..], room);
     let note = judged.note;
     let flags = judged.flags;
     show_judged(note, flags);
@@ -453,7 +453,7 @@ fn judge(terms: Terms, exchange: Exchange, block: &[u8], room: &mut [u8]) -> Exc
 
 // Shows what a block came to.
 fn show_judged(note: Note, flags: Flags) {
-    show::decimal(note.number() as usize);
+    show::decimal(clerk::note_number(note) as usize);
     if any_flag(flags) {
         show::text(b"/");
         show_flags(flags);
@@ -467,7 +467,7 @@ fn tick_on(terms: Terms, before: Exchange, count: u16) -> Exchange {
     let mut i: u16 = 0;
     while i < count {
         i += 1;
-        let told = exchange.tick(terms);
+        let told = clerk::tick(exchange, terms);
         shown = show_tick(shown, i, told.flags);
         exchange = told.exchange;
     }
@@ -496,7 +496,7 @@ fn released(requested: Requested) -> Exchange {
     let asked = requested.asked;
     match asked {
         Asked::Taken(_) => show::text(b"0"),
-        Asked::Refused(why) => show::decimal(why.number() as usize),
+        Asked::Refused(why) => show::decimal(clerk::refusal_number(why) as usize),
     }
     requested.exchange
 }
@@ -560,8 +560,8 @@ fn show_flags(flags: Flags) {
 // Shows what is looked at.
 fn show_look(exchange: Exchange, look: Look, room: &[u8; 36864]) {
     match look {
-        Look::Own(place) => show_own(exchange.own_reading(place)),
-        Look::Incoming(place) => show_incoming(exchange.incoming_reading(place)),
+        Look::Own(place) => show_own(clerk::own_reading(exchange, place)),
+        Look::Incoming(place) => show_incoming(clerk::incoming_reading(exchange, place)),
         Look::Bytes {
             message,
             offset,
@@ -593,7 +593,7 @@ fn show_standing(standing: Standing) {
     match standing {
         Standing::Free => show::text(b"-"),
         Standing::Open => show::text(b"0"),
-        Standing::Given(verdict) => show::decimal(verdict.number() as usize),
+        Standing::Given(verdict) => show::decimal(life::verdict_number(verdict) as usize),
     }
 }
 

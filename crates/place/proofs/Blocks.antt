@@ -17,8 +17,8 @@ use Rattle.place.specs.OwnTheorems.{Due, Becomes, AnswerExactly}
 use Rattle.place.proofs.Messages.{continues, by-fate}
 use Rattle.place.proofs.OwnInvariant.{At, placeAt, meet, is-acked, no-block, HasVerdict, awaits-exactly, goes-on}
 use Rattle.place.proofs.OwnAlways.{always}
-use Rattle.place.specs.declared.own.OwnStage.{OwnStage}
-use Rattle.place.specs.declared.own.OwnStage.the-variants.{Free, Sending, Awaiting, Replying, Done}
+use Rattle.place.specs.declared.OwnStage.{OwnStage}
+use Rattle.place.specs.declared.OwnStage.the-variants.{Free, Sending, Awaiting, Replying, Done}
 
 -- ---- whether it is the reply's
 

@@ -1,14 +1,12 @@
 -- A message of the far end is complete exactly when its blocks are, shows what they say, and stays until it is released; and no
 -- place that is reached is out of range. Assumes nothing.
-use Prim.Native.Nat.{ℕ, _+_, _≤_}
+use Prim.Native.Nat.{_+_, _≤_}
 use mathlib.Core.Path.{_≡_, refl, sym, ap, _∙_}
 use mathlib.Core.Bool.{Bool, true, false, false≢true}
-use mathlib.Core.List.{List}
 use mathlib.Core.Logic.{_↔_, ⊎-elim}
 use native.Mathlib.Omega.{arith}
 use lib.ListN.{length}
 use borrow.Author.Tests.{le-leb}
-use Rattle.header.specs.Header.{headerOf}
 use Rattle.header.specs.declared.header.Header.{Header}
 use Rattle.settings.specs.declared.terms.Terms.{Terms}
 use Rattle.place.specs.Message.{Continues, Whole, firstOf}
@@ -16,9 +14,9 @@ use Rattle.place.specs.Incoming.{primaryOf, lengthAt, continuesHere, tak
 use Rattle.place.specs.Range.{timerInRange, lengthInRange, openInRange, incomingStageInRange}
 use Rattle.place.specs.IncomingHistory.{Event, begin, block, tick, answer, sent, failed, release, nothing, arriving, showsAt, shows, step, Seen, Track}
 use Rattle.place.specs.IncomingTheorems.{isComplete, Breaks, ShowsExactly, CompleteExactly, TakesExactly, MessageShown, spares, StaysComplete, CompleteStays, IncomingReachedInRange}
-use Rattle.place.specs.declared.incoming.IncomingStage.{IncomingStage}
-use Rattle.place.specs.declared.incoming.IncomingStage.the-variants.{Free, Open, Complete, Replying, Replied}
-use Rattle.place.specs.declared.incoming.Incoming.{Incoming}
+use Rattle.place.specs.declared.IncomingStage.{IncomingStage}
+use Rattle.place.specs.declared.IncomingStage.the-variants.{Free, Open, Complete, Replying, Replied}
+use Rattle.place.specs.declared.Incoming.{Incoming}
 use Rattle.place.proofs.Messages.{begun-not-whole, continues}
 use Rattle.place.proofs.IncomingInvariant.{NoneHere, At, always}
 
@@ -62,7 +60,7 @@ nothing-so c t e n =
     }
 
 -- each stage shows one of the three
-exactly : (c : Terms) (h : List ℕ) (p : IncomingStage) (s : Seen) → At c p (headerOf h) s → ShowsExactly c (record { incoming = record { header = h; stage = p }; seen = s })
+exactly : (c : Terms) (h : Header) (p : IncomingStage) (s : Seen) → At c p h s → ShowsExactly c (record { incoming = record { header = h; stage = p }; seen = s })
 exactly c h Free s g = nothing-so c _ refl g
 exactly c h (Open timer next n) s g =
     arriving-so c _ refl (g .0 .begun) (begun-not-whole (s .kept) (g .1 .so-far))
@@ -106,7 +104,7 @@ message-shown c t w = said c (t .incoming .stage) _ (t .seen) (always c t w)
 
 -- whatever comes, but a release
 stays :
-    (c : Terms) (h : List ℕ) (p : IncomingStage) (e : Event c) → isComplete (showsAt p) ≡ true → spares e ≡ true
+    (c : Terms) (h : Header) (p : IncomingStage) (e : Event c) → isComplete (showsAt p) ≡ true → spares e ≡ true
     → let i : Incoming = record { header = h; stage = p } in
     (isComplete (shows (step i e)) ≡ true) × (step i e .header ≡ h) × (incomingLength (step i e) ≡ lengthAt p)
 unfolding incomingOffered
@@ -135,7 +133,7 @@ stays c h (Replied n f) failed x y = (refl, refl, refl)
 stays c h (Replied n f) release x y = absurd (false≢true y)
 
 -- and our reply to it
-of-stage : (c : Terms) (h : List ℕ) (p : IncomingStage) → StaysComplete c (record { header = h; stage = p })
+of-stage : (c : Terms) (h : Header) (p : IncomingStage) → StaysComplete c (record { header = h; stage = p })
 of-stage c h Free =
     record {
       kept = λ x e y. stays c h _ e x y;

@@ -10,8 +10,8 @@ use Rattle.place.specs.OwnHistory.{acknowledged, Seen}
 use Rattle.place.specs.OwnTheorems.{Decided, VerdictFalls}
 use Rattle.place.proofs.OwnInvariant.{At, placeAt, meet, is-acked, no-block}
 use Rattle.place.proofs.OwnAlways.{always}
-use Rattle.place.specs.declared.own.OwnStage.{OwnStage}
-use Rattle.place.specs.declared.own.OwnStage.the-variants.{Free, Sending, Awaiting, Replying, Done}
+use Rattle.place.specs.declared.OwnStage.{OwnStage}
+use Rattle.place.specs.declared.OwnStage.the-variants.{Free, Sending, Awaiting, Replying, Done}
 
 -- there is time left: less than T3 + 4096 x T4 + 1 ticks have passed, and less than T3 + 1 if no block is kept
 record Early (c : Terms) (s : Seen) : Type 0 where

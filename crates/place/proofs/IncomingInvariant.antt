@@ -8,7 +8,6 @@ use mathlib.Core.Logic.{_⊎_, inl, inr, ⊎-elim}
 use native.Mathlib.Omega.{arith}
 use lib.ListN.{length}
 use Rattle.wire.proofs.Choice.{judged}
-use Rattle.header.specs.Header.{headerOf}
 use Rattle.header.specs.Theorems.{SameElse}
 use Rattle.header.specs.declared.header.Header.{Header}
 use Rattle.settings.specs.declared.terms.Terms.{Terms}
@@ -19,10 +18,10 @@ use Rattle.place.specs.Incoming.{primaryOf, begunBy, begins, openBy, ope
 use Rattle.place.specs.OwnHistory.{passed, spoilt, answerBy}
 use Rattle.place.specs.IncomingHistory.{Event, begin, block, tick, answer, sent, failed, release, answerFirst, answerNext, seesFirst, seesNext, Seen, Track, next, track, atStart}
 use Rattle.place.specs.IncomingTheorems.{Reached, Breaks}
-use Rattle.place.specs.declared.fate.Fate.{Fate}
-use Rattle.place.specs.declared.incoming.IncomingStage.{IncomingStage}
-use Rattle.place.specs.declared.incoming.IncomingStage.the-variants.{Free, Open, Complete, Replying, Replied}
-use Rattle.place.specs.declared.incoming.Incoming.{Incoming}
+use Rattle.place.specs.declared.Fate.{Fate}
+use Rattle.place.specs.declared.IncomingStage.{IncomingStage}
+use Rattle.place.specs.declared.IncomingStage.the-variants.{Free, Open, Complete, Replying, Replied}
+use Rattle.place.specs.declared.Incoming.{Incoming}
 use Rattle.place.proofs.Messages.{one-longer, first-more, begun-first, whole-first, begun-more, whole-more, begun-not-whole, starts-primary, number-first, number-one, continues, same-else, by-fate}
 
 -- ---- what is so at each stage
@@ -62,23 +61,23 @@ Good c t = At c (t .incoming .stage) (primaryOf (t .incoming)) (t .seen)
 -- ---- blocks
 
 -- a first block, with what becomes of it
-abbrev firstLeaves : Incoming → Seen → List ℕ → ℕ → Fate → Track
-firstLeaves i s h size f = record { incoming = begunBy i h (headerOf h .number) f; seen = seesFirst (answerBy f) s (headerOf h) size }
+abbrev firstLeaves : Incoming → Seen → Header → ℕ → Fate → Track
+firstLeaves i s h size f = record { incoming = begunBy i h (h .number) f; seen = seesFirst (answerBy f) s h size }
 
 -- one that is kept is all that is kept; one that is not leaves all as it was
 first-block :
-    (c : Terms) (i : Incoming) (s : Seen) (h : List ℕ) (size : ℕ) → Routed c (headerOf h) → StartsMessage (headerOf h)
-    → Good c (record { incoming = i; seen = s }) → Good c (firstLeaves i s h size (fateOf (headerOf h) 0 size))
+    (c : Terms) (i : Incoming) (s : Seen) (h : Header) (size : ℕ) → Routed c h → StartsMessage h
+    → Good c (record { incoming = i; seen = s }) → Good c (firstLeaves i s h size (fateOf h 0 size))
 first-block c i s h size q b g =
-    by-fate (headerOf h) 0 size (λ f. Good c (firstLeaves i s h size f))
+    by-fate h 0 size (λ f. Good c (firstLeaves i s h size f))
     (λ lacks. g)
     (λ has long. g)
-    (λ has e fits. (record { begun = refl; first = refl; length = omega arith; fits = fits }, whole-first (headerOf h) (number-first (headerOf h) b) e))
+    (λ has e fits. (record { begun = refl; first = refl; length = omega arith; fits = fits }, whole-first h (number-first h b) e))
     (λ has e fits some.
-    let one = number-one (headerOf h) b e in (
+    let one = number-one h b e in (
       record { begun = refl; first = refl; length = omega arith; fits = fits },
       record {
-        so-far = begun-first (headerOf h) one e;
+        so-far = begun-first h one e;
         number = omega (arith, one);
         each-some = omega (arith, one);
         routed = q;
@@ -122,7 +121,7 @@ next-block c i s timer next n h size q k g =
 -- ---- one event
 
 -- a place at a stage, and what the onlooker has seen of it
-abbrev placed : List ℕ → IncomingStage → Seen → Track
+abbrev placed : Header → IncomingStage → Seen → Track
 placed h p s = record { incoming = record { header = h; stage = p }; seen = s }
 
 -- what the onlooker has seen a tick later
@@ -134,19 +133,19 @@ none-longer : (c : Terms) (s : Seen) → NoneHere c s → NoneHere c (ticks s)
 none-longer c s g = ⊎-elim inl (λ w. inr (w .0, w .1, ⊎-elim inl (λ late. inr (omega arith)) (w .2))) g
 
 -- what one event leaves
-one-more : (c : Terms) (h : List ℕ) (p : IncomingStage) (s : Seen) (e : Event c) → At c p (headerOf h) s → Good c (next (placed h p s) e)
+one-more : (c : Terms) (h : Header) (p : IncomingStage) (s : Seen) (e : Event c) → At c p h s → Good c (next (placed h p s) e)
 unfolding begins openTick continuesHere goesOn incomingOffered answerFirst answerNext
-one-more c h Free s (begin h' size q b) g = first-block c _ s h' size q (starts-primary (headerOf h') b) g
+one-more c h Free s (begin h' size q b) g = first-block c _ s h' size q (starts-primary h' b) g
 one-more c h Free s (block b size q) g = g
 one-more c h Free s tick g = none-longer c s g
 one-more c h Free s answer g = g
 one-more c h Free s sent g = g
 one-more c h Free s failed g = g
 one-more c h Free s release g = g
-one-more c h (Open timer next n) s (begin h' size q b) g = first-block c _ s h' size q (starts-primary (headerOf h') b) g
+one-more c h (Open timer next n) s (begin h' size q b) g = first-block c _ s h' size q (starts-primary h' b) g
 one-more c h (Open timer next n) s (block b size q) g =
     let i : Incoming = record { header = h; stage = Open timer next n } in
-    judged (continuesOf (headerOf h) next b) (continues (headerOf h) next b)
+    judged (continuesOf h next b) (continues h next b)
     (λ t. Good c (record { incoming = cond t (goesOn i b size) i; seen = seesNext (cond t (answerBy (fateOf b n size)) passed) s b size }))
     (λ k. next-block c i s timer next n b size q k g) (λ k. g)
 one-more c h (Open timer next n) s tick g =

@@ -6,8 +6,8 @@ use native.Mathlib.Omega.{arith}
 use Rattle.place.specs.Fate.{beginsReply, beginsPrimary}
 use Rattle.place.specs.Judging.{PrimaryExactly, ReplyExactly, ContinuesExactly, Judged, FateExactly}
 use Rattle.place.proofs.Messages.{starts-with, continues, by-fate}
-use Rattle.place.specs.declared.fate.Fate.{Fate}
-use Rattle.place.specs.declared.fate.Fate.the-variants.{Empty, TooLong, Last, More}
+use Rattle.place.specs.declared.Fate.{Fate}
+use Rattle.place.specs.declared.Fate.the-variants.{Empty, TooLong, Last, More}
 
 pub primary-exactly : PrimaryExactly
 unfolding beginsPrimary

@@ -1,11 +1,9 @@
 -- `Messages`: the laws of a message and of what becomes of its blocks. `Judging`: a block is judged as 01 says.
--- `IncomingInvariant`: what holds of an incoming place after any events; from it `Completing` has its theorems. `Determined`: what
--- each public contract determines.
+-- `IncomingInvariant`: what holds of an incoming place after any events; from it `Completing` has its theorems.
 pub mod Messages
 pub mod Judging
 pub mod IncomingInvariant
 pub mod Completing
-pub mod Determined
 pub mod OwnInvariant
 pub mod OwnAlways
 pub mod Blocks

@@ -16,8 +16,8 @@ use Rattle.header.specs.declared.header.Header.{Header}
 use Rattle.settings.specs.declared.terms.Terms.{Terms}
 use Rattle.place.specs.Message.{Routed, StartsMessage, Continues, LacksData, noHeader, blockAt, firstOf, Whole, Begun}
 use Rattle.place.specs.Fate.{startsMessage, beginsReply, beginsPrimary, sameKind, continuesOf, lacksData, tooLong, keptOf, fateOf}
-use Rattle.place.specs.declared.fate.Fate.{Fate}
-use Rattle.place.specs.declared.fate.Fate.the-variants.{Empty, TooLong, Last, More}
+use Rattle.place.specs.declared.Fate.{Fate}
+use Rattle.place.specs.declared.Fate.the-variants.{Empty, TooLong, Last, More}
 
 -- ---- the blocks so far, and one more
 

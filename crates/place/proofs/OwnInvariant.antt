@@ -23,14 +23,14 @@ use Rattle.place.specs.OwnHistory as onlooker
 use Rattle.place.specs.OwnTheorems.{Asked, Complete, Earned, BeginsReply}
 use Rattle.place.proofs.Messages.{one-longer, first-more, begun-first, whole-first, begun-more, whole-more, none-not-whole, begun-not-whole, number-first, number-one, continues, same-else, by-fate}
 use Rattle.place.proofs.Judging.{reply-exactly}
-use Rattle.place.specs.declared.verdict.Verdict.{Verdict}
-use Rattle.place.specs.declared.verdict.Verdict.the-variants.{Sent, Answered, Declined, Other, Broken, NoReply, SendFailed}
-use Rattle.place.specs.declared.verdict.Standing.{Standing}
-use Rattle.place.specs.declared.verdict.Standing.the-variants as standing
-use Rattle.place.specs.declared.own.Reply.{Reply}
-use Rattle.place.specs.declared.own.OwnStage.{OwnStage}
-use Rattle.place.specs.declared.own.OwnStage.the-variants.{Free, Sending, Awaiting, Replying, Done}
-use Rattle.place.specs.declared.own.Own.{Own}
+use Rattle.place.specs.declared.Verdict.{Verdict}
+use Rattle.place.specs.declared.Verdict.the-variants.{Sent, Answered, Declined, Other, Broken, NoReply, SendFailed}
+use Rattle.place.specs.declared.Standing.{Standing}
+use Rattle.place.specs.declared.Standing.the-variants as standing
+use Rattle.place.specs.declared.Reply.{Reply}
+use Rattle.place.specs.declared.OwnStage.{OwnStage}
+use Rattle.place.specs.declared.OwnStage.the-variants.{Free, Sending, Awaiting, Replying, Done}
+use Rattle.place.specs.declared.Own.{Own}
 
 -- ---- what holds at each stage
 

@@ -11,8 +11,8 @@ use Rattle.place.specs.OwnHistory.{Seen}
 use Rattle.place.specs.OwnTheorems.{OwnReachedInRange}
 use Rattle.place.proofs.OwnInvariant.{At}
 use Rattle.place.proofs.OwnAlways.{always}
-use Rattle.place.specs.declared.own.OwnStage.{OwnStage}
-use Rattle.place.specs.declared.own.OwnStage.the-variants.{Free, Sending, Awaiting, Replying, Done}
+use Rattle.place.specs.declared.OwnStage.{OwnStage}
+use Rattle.place.specs.declared.OwnStage.the-variants.{Free, Sending, Awaiting, Replying, Done}
 
 -- at each stage
 within :

@@ -18,14 +18,14 @@ use Rattle.place.specs.OwnTheorems.{Answers, Declines, Asked, Complete, 
 use Rattle.place.proofs.Messages.{none-not-whole, begun-not-whole}
 use Rattle.place.proofs.OwnInvariant.{At, onReply, placeAt, is-acked, HasVerdict}
 use Rattle.place.proofs.OwnAlways.{always}
-use Rattle.place.specs.declared.verdict.Verdict.{Verdict}
-use Rattle.place.specs.declared.verdict.Verdict.the-variants.{Sent, Answered, Declined, Other, Broken, NoReply, SendFailed}
-use Rattle.place.specs.declared.verdict.Standing.{Standing}
-use Rattle.place.specs.declared.verdict.Standing.the-variants as standing
-use Rattle.place.specs.declared.own.Reply.{Reply}
-use Rattle.place.specs.declared.own.OwnStage.{OwnStage}
-use Rattle.place.specs.declared.own.OwnStage.the-variants.{Free, Sending, Awaiting, Replying, Done}
-use Rattle.place.specs.declared.own.Own.{Own}
+use Rattle.place.specs.declared.Verdict.{Verdict}
+use Rattle.place.specs.declared.Verdict.the-variants.{Sent, Answered, Declined, Other, Broken, NoReply, SendFailed}
+use Rattle.place.specs.declared.Standing.{Standing}
+use Rattle.place.specs.declared.Standing.the-variants as standing
+use Rattle.place.specs.declared.Reply.{Reply}
+use Rattle.place.specs.declared.OwnStage.{OwnStage}
+use Rattle.place.specs.declared.OwnStage.the-variants.{Free, Sending, Awaiting, Replying, Done}
+use Rattle.place.specs.declared.Own.{Own}
 
 -- ---- what a place shows is so
 

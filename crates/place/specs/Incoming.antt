@@ -1,32 +1,30 @@
 -- The life of a place of a message of the far end (E4 7.4; 01, "Messages").
 use Prim.Native.Nat.{ℕ, _+_}
 use mathlib.Core.Bool.{Bool, true, false, cond}
-use mathlib.Core.List.{List}
-use lib.ListN.{replicate}
-use Rattle.header.specs.Header.{headerOf}
 use Rattle.header.specs.declared.header.Header.{Header}
 use Rattle.settings.specs.Timer.{ticked}
 use Rattle.settings.specs.declared.terms.Terms.{Terms}
 use Rattle.settings.specs.declared.timer.Timer.{Timer}
 use Rattle.settings.specs.declared.timer.Timer.the-variants.{RunsOut, Runs}
+use Rattle.place.specs.Message.{noHeader}
 use Rattle.place.specs.Fate.{continuesOf, fateOf}
-use Rattle.place.specs.declared.fate.Fate.{Fate}
-use Rattle.place.specs.declared.fate.Fate.the-variants.{Empty, TooLong, Last, More}
-use Rattle.place.specs.declared.incoming.End.{End}
-use Rattle.place.specs.declared.incoming.End.the-variants as end
-use Rattle.place.specs.declared.incoming.IncomingStage.{IncomingStage}
-use Rattle.place.specs.declared.incoming.IncomingStage.the-variants.{Free, Open, Complete, Replying, Replied}
-use Rattle.place.specs.declared.incoming.Incoming.{Incoming}
+use Rattle.place.specs.declared.Fate.{Fate}
+use Rattle.place.specs.declared.Fate.the-variants.{Empty, TooLong, Last, More}
+use Rattle.place.specs.declared.End.{End}
+use Rattle.place.specs.declared.End.the-variants as end
+use Rattle.place.specs.declared.IncomingStage.{IncomingStage}
+use Rattle.place.specs.declared.IncomingStage.the-variants.{Free, Open, Complete, Replying, Replied}
+use Rattle.place.specs.declared.Incoming.{Incoming}
 
 abbrev pub freshIncoming : Incoming
-freshIncoming = record { header = replicate 10 0; stage = Free }
+freshIncoming = record { header = noHeader; stage = Free }
 
 abbrev pub stageAt : Incoming → IncomingStage → Incoming
 stageAt i s = record { header = i .header; stage = s }
 
--- what the header of its first block says
+-- the header of its first block
 abbrev pub primaryOf : Incoming → Header
-primaryOf i = headerOf (i .header)
+primaryOf i = i .header
 
 -- how many data bytes are kept
 abbrev pub lengthAt : IncomingStage → ℕ
@@ -85,24 +83,24 @@ incomingIsReplied i = repliedAt (i .stage)
 -- ---- a primary begins
 
 -- "A primary not yet open takes no place."
-abbrev pub begunBy : Incoming → List ℕ → ℕ → Fate → Incoming
+abbrev pub begunBy : Incoming → Header → ℕ → Fate → Incoming
 begunBy i h number Empty = i
 begunBy i h number TooLong = i
 begunBy i h number (Last n) = record { header = h; stage = Complete n }
 begunBy i h number (More n) = record { header = h; stage = Open 0 (number + 1) n }
 
-unfoldable pub begins : Incoming → List ℕ → ℕ → Incoming
-begins i h size = begunBy i h (headerOf h .number) (fateOf (headerOf h) 0 size)
+unfoldable pub begins : Incoming → Header → ℕ → Incoming
+begins i h size = begunBy i h (h .number) (fateOf h 0 size)
 
 -- in a free place, or instead of an open message: "throws that one out and takes its place"
-abbrev pub begunAt : IncomingStage → Incoming → List ℕ → ℕ → Incoming
+abbrev pub begunAt : IncomingStage → Incoming → Header → ℕ → Incoming
 begunAt Free i h size = begins i h size
 begunAt (Open timer next n) i h size = begins i h size
 begunAt (Complete n) i h size = i
 begunAt (Replying n) i h size = i
 begunAt (Replied n e) i h size = i
 
-abbrev pub incomingBegun : Incoming → List ℕ → ℕ → Incoming
+abbrev pub incomingBegun : Incoming → Header → ℕ → Incoming
 incomingBegun i h size = begunAt (i .stage) i h size
 
 -- ---- time

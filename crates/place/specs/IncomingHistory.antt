@@ -4,22 +4,21 @@ use Prim.Native.Nat.{ℕ, _+_}
 use mathlib.Core.Path.{_≡_}
 use mathlib.Core.Bool.{Bool, true, false, cond}
 use mathlib.Core.List.{List, [], _∷_, _++_}
-use Rattle.header.specs.Header.{headerOf}
 use Rattle.header.specs.declared.header.Header.{Header}
 use Rattle.settings.specs.declared.terms.Terms.{Terms}
 use Rattle.place.specs.Fate.{fateOf, beginsPrimary}
 use Rattle.place.specs.Message.{Routed}
 use Rattle.place.specs.OwnHistory.{Answer, passed, kept, spoilt, answerBy}
 use Rattle.place.specs.Incoming.{freshIncoming, incomingLength, incomingBegun, incomingTick, incomingTakes, incomingOffered, incomingAnswered, incomingSent, incomingFailed, incomingReleased}
-use Rattle.place.specs.declared.incoming.End.{End}
-use Rattle.place.specs.declared.incoming.IncomingStage.{IncomingStage}
-use Rattle.place.specs.declared.incoming.IncomingStage.the-variants.{Free, Open, Complete, Replying, Replied}
-use Rattle.place.specs.declared.incoming.Incoming.{Incoming}
+use Rattle.place.specs.declared.End.{End}
+use Rattle.place.specs.declared.IncomingStage.{IncomingStage}
+use Rattle.place.specs.declared.IncomingStage.the-variants.{Free, Open, Complete, Replying, Replied}
+use Rattle.place.specs.declared.Incoming.{Incoming}
 
--- A primary's first block, its ten header bytes and so many data bytes, begins here; a block that passed rule 1 comes; 0.1 s pass;
+-- A primary's first block, with its header and so many data bytes, begins here; a block that passed rule 1 comes; 0.1 s pass;
 -- a reply is accepted, its last block is acknowledged, a block of it fails; the message is released.
 pub data Event (c : Terms) : Type 0 where
-  begin : (h : List ℕ) (size : ℕ) → Routed c (headerOf h) → beginsPrimary (headerOf h) ≡ true → Event c
+  begin : (h : Header) (size : ℕ) → Routed c h → beginsPrimary h ≡ true → Event c
   block : (h : Header) (size : ℕ) → Routed c h → Event c
   tick answer sent failed release : Event c
 
@@ -100,7 +99,7 @@ seesRelease replying s = s
 seesRelease (replied e) s = record { begun = false; kept = s .kept; bytes = s .bytes; spoilt = s .spoilt; quiet = s .quiet }
 
 abbrev pub sees : {c : Terms} → Incoming → Seen → Event c → Seen
-sees i s (begin h size q b) = seesFirst (answerFirst i (headerOf h) size) s (headerOf h) size
+sees i s (begin h size q b) = seesFirst (answerFirst i h size) s h size
 sees i s (block h size q) = seesNext (answerNext i h size) s h size
 sees i s tick = record { begun = s .begun; kept = s .kept; bytes = s .bytes; spoilt = s .spoilt; quiet = s .quiet + 1 }
 sees i s answer = s

@@ -12,9 +12,9 @@ use Rattle.place.specs.Message.{Continues, Whole, firstOf}
 use Rattle.place.specs.Incoming.{primaryOf, incomingLength, incomingTakes, incomingAnswered, incomingSent, incomingFailed, incomingReleased}
 use Rattle.place.specs.Range.{incomingInRange}
 use Rattle.place.specs.IncomingHistory.{Event, begin, block, tick, answer, sent, failed, release, Shows, nothing, arriving, complete, replying, replied, shows, step, Seen, Track, track, atStart}
-use Rattle.place.specs.declared.incoming.End.{End}
-use Rattle.place.specs.declared.incoming.End.the-variants as end
-use Rattle.place.specs.declared.incoming.Incoming.{Incoming}
+use Rattle.place.specs.declared.End.{End}
+use Rattle.place.specs.declared.End.the-variants as end
+use Rattle.place.specs.declared.Incoming.{Incoming}
 
 -- what any events at a fresh place leave
 pub record Reached (c : Terms) (t : Track) : Type 0 where

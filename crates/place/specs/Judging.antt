@@ -7,8 +7,8 @@ use mathlib.Core.Logic.{_↔_}
 use Rattle.header.specs.declared.header.Header.{Header}
 use Rattle.place.specs.Message.{StartsMessage, Continues, LacksData}
 use Rattle.place.specs.Fate.{beginsReply, beginsPrimary, continuesOf, fateOf}
-use Rattle.place.specs.declared.fate.Fate.{Fate}
-use Rattle.place.specs.declared.fate.Fate.the-variants.{Empty, TooLong, Last, More}
+use Rattle.place.specs.declared.Fate.{Fate}
+use Rattle.place.specs.declared.Fate.the-variants.{Empty, TooLong, Last, More}
 
 -- "odd function, same number rule"
 abbrev pub PrimaryExactly : Type 0

@@ -32,7 +32,7 @@ pub record LacksData (h : Header) (size : ℕ) : Type 0 where
   pub none : size ≡ 0
   pub wanted : (h .e ≡ false) ⊎ (1 < h .number)
 
--- what stands beyond the end of a list of headers: never read
+-- what stands beyond the end of a list of headers, and in a place to which no message came yet: never read
 abbrev pub noHeader : Header
 noHeader = record { r = false; device = 0; w = false; stream = 0; function = 0; e = false; number = 0; system = 0 }
 

@@ -9,11 +9,11 @@ use Rattle.settings.specs.declared.terms.Terms.{Terms}
 use Rattle.place.specs.Fate.{fateOf}
 use Rattle.place.specs.Message.{Routed, noHeader}
 use Rattle.place.specs.Own.{freshOwn, ownStanding, ownKept, ownClaimed, ownSent, ownFailed, ownTick, ownTakes, ownOffered, ownReleased}
-use Rattle.place.specs.declared.fate.Fate.{Fate}
-use Rattle.place.specs.declared.fate.Fate.the-variants.{Empty, TooLong, Last, More}
-use Rattle.place.specs.declared.verdict.Standing.{Standing}
-use Rattle.place.specs.declared.verdict.Standing.the-variants as standing
-use Rattle.place.specs.declared.own.Own.{Own}
+use Rattle.place.specs.declared.Fate.{Fate}
+use Rattle.place.specs.declared.Fate.the-variants.{Empty, TooLong, Last, More}
+use Rattle.place.specs.declared.Standing.{Standing}
+use Rattle.place.specs.declared.Standing.the-variants as standing
+use Rattle.place.specs.declared.Own.{Own}
 
 -- A primary with this header is accepted; its last block is acknowledged; a block of it fails; 0.1 s pass; a block that passed
 -- rule 1 comes, with so many data bytes; the verdict is released.

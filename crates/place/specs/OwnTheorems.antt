@@ -12,9 +12,9 @@ use Rattle.place.specs.Message.{Routed, StartsMessage, Continues, LacksD
 use Rattle.place.specs.Own.{ownStanding, ownKept}
 use Rattle.place.specs.Range.{ownInRange}
 use Rattle.place.specs.OwnHistory.{Event, claim, sent, failed, tick, release, block, none, acknowledged, lost, Answer, passed, kept, spoilt, answerTo, Seen, Track, track, atStart, run}
-use Rattle.place.specs.declared.verdict.Verdict.{Verdict}
-use Rattle.place.specs.declared.verdict.Verdict.the-variants.{Sent, Answered, Declined, Other, Broken, NoReply, SendFailed}
-use Rattle.place.specs.declared.verdict.Standing.the-variants.{Free, Open, Given}
+use Rattle.place.specs.declared.Verdict.{Verdict}
+use Rattle.place.specs.declared.Verdict.the-variants.{Sent, Answered, Declined, Other, Broken, NoReply, SendFailed}
+use Rattle.place.specs.declared.Standing.the-variants.{Free, Open, Given}
 
 -- what any events at a fresh place leave
 pub record Reached (c : Terms) (t : Track) : Type 0 where

@@ -2,12 +2,12 @@
 use Prim.Native.Nat.{ℕ}
 use mathlib.Core.Bool.{Bool, true, _&&_}
 use lib.Dec.{leb}
-use Rattle.place.specs.declared.own.OwnStage.{OwnStage}
-use Rattle.place.specs.declared.own.OwnStage.the-variants as own
-use Rattle.place.specs.declared.own.Own.{Own}
-use Rattle.place.specs.declared.incoming.IncomingStage.{IncomingStage}
-use Rattle.place.specs.declared.incoming.IncomingStage.the-variants as incoming
-use Rattle.place.specs.declared.incoming.Incoming.{Incoming}
+use Rattle.place.specs.declared.OwnStage.{OwnStage}
+use Rattle.place.specs.declared.OwnStage.the-variants as own
+use Rattle.place.specs.declared.Own.{Own}
+use Rattle.place.specs.declared.IncomingStage.{IncomingStage}
+use Rattle.place.specs.declared.IncomingStage.the-variants as incoming
+use Rattle.place.specs.declared.Incoming.{Incoming}
 
 -- 0 to 1,200: the longest T3 and T4
 unfoldable pub timerInRange : ℕ → Bool

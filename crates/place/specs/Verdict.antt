@@ -1,7 +1,7 @@
 -- "Verdicts of an own place" (01, "Messages"), and the number of each.
 use Prim.Native.Nat.{ℕ}
-use Rattle.place.specs.declared.verdict.Verdict.{Verdict}
-use Rattle.place.specs.declared.verdict.Verdict.the-variants.{Sent, Answered, Declined, Other, Broken, NoReply, SendFailed}
+use Rattle.place.specs.declared.Verdict.{Verdict}
+use Rattle.place.specs.declared.Verdict.the-variants.{Sent, Answered, Declined, Other, Broken, NoReply, SendFailed}
 
 abbrev pub verdictNumber : Verdict → ℕ
 verdictNumber Sent = 1

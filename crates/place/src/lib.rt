@@ -4,20 +4,97 @@
 // message of the far end from its first block until it is released or dropped. Each is a value: an event takes the place and
 // hands the next one back. A place knows nothing of the line, of other places, or of where bytes lie: it is told that its
 // primary was acknowledged or failed, is offered blocks, and counts ticks.
-mod fate;
-mod incoming;
-mod own;
-mod range;
-mod verdict;
+//
+// The model: types here, definitions and statements in `specs/`, and the proofs about them. The functions are crate `life`.
+use header::Header;
 
-pub use fate::Fate;
-pub use fate::begins_primary;
-pub use fate::fate_of;
-pub use incoming::End;
-pub use incoming::Incoming;
-pub use incoming::IncomingStage;
-pub use own::Own;
-pub use own::OwnStage;
-pub use own::Reply;
-pub use verdict::Standing;
-pub use verdict::Verdict;
+// A place of an own transaction: from the primary's acceptance to the release of its verdict.
+pub struct Own {
+    // The primary's header. Block number and E are each block's own, and 0 here.
+    pub header: [u8; 10],
+    pub stage: OwnStage,
+}
+
+// How far it is.
+pub enum OwnStage {
+    Free,
+    // The primary is being sent or held.
+    Sending,
+    // Its last block was acknowledged, so many ticks ago (T3).
+    Awaiting { timer: u32 },
+    // Blocks of the reply are kept, the last of them so many ticks ago (T4).
+    Replying { timer: u32, next: u32, reply: Reply },
+    Done { verdict: Verdict, reply: Reply },
+}
+
+// What is known of a reply: W, stream and function of its blocks, and how many of its data bytes are kept.
+pub struct Reply {
+    pub w: bool,
+    pub stream: u8,
+    pub function: u8,
+    pub length: u16,
+}
+
+// The verdicts of an own place, and their numbers in 01 ("Messages").
+pub enum Verdict {
+    // 1: "W = 0, all acknowledged".
+    Sent,
+    // 2: "complete reply, same stream, function one higher".
+    Answered,
+    // 3: "same stream, function 0".
+    Declined,
+    // 4: "other reply".
+    Other,
+    // 5: "broken".
+    Broken,
+    // 6: "no reply in T3".
+    NoReply,
+    // 7: "send failed".
+    SendFailed,
+}
+
+// How a place stands to its user.
+pub enum Standing {
+    // No message is in it.
+    Free,
+    // 0: its verdict has not fallen.
+    Open,
+    Given(Verdict),
+}
+
+// A place of a message of the far end: from its first block until it is released or dropped.
+pub struct Incoming {
+    // The header of its first block.
+    pub header: Header,
+    pub stage: IncomingStage,
+}
+
+// How far it is.
+pub enum IncomingStage {
+    Free,
+    // Blocks are kept, the last of them so many ticks ago (T4).
+    Open { timer: u32, next: u32, length: u16 },
+    Complete { length: u16 },
+    // Our reply to it is being sent or held.
+    Replying { length: u16 },
+    Replied { length: u16, end: End },
+}
+
+// How our reply ended.
+pub enum End {
+    Sent,
+    Failed,
+}
+
+// What becomes of a block of a message (01, "A block that goes up is judged in this order"): the same for a reply to us and for a
+// message of the far end.
+pub enum Fate {
+    // Rule 4: it has no data and should have some.
+    Empty,
+    // Rule 5: the message would grow beyond its limit.
+    TooLong,
+    // Rule 7: kept, and the message, of so many bytes, is complete.
+    Last(u16),
+    // Rule 7: kept, and the message has so many bytes so far.
+    More(u16),
+}

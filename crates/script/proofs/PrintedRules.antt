@@ -6,34 +6,24 @@ use mathlib.Core.List.{List, [], _∷_, _++_, append-assoc}
 use native.Mathlib.Omega.{arith}
 use lib.Dec.{ltb}
 use lib.ListN.{length, getD}
-use borrow.Author.Tests.{le-ltb, le-leb, lt-leb, ne-eqb, ltb-true, ltb-false}
+use borrow.Author.Tests.{le-ltb, ne-eqb, ltb-true, ltb-false}
 use Rattle.wire.specs.Bytes.{Bytes}
 use Rattle.wire.proofs.Choice.{chosen}
-use Rattle.script.specs.Hex.{areDigits, byteOf, dataOf, digitOf, glyphOf, hexOf, isData}
+use Rattle.text.specs.Hex.{areDigits, byteOf, dataOf, digitOf, isData}
+use Rattle.text.proofs.HexRules.{digit-low, digit-upper}
+use Rattle.script.specs.Hex.{glyphOf, hexOf}
 use Rattle.script.specs.Printed.{dataField, dataText, numberField, numberText}
 use Rattle.script.specs.PrintedRules.{DataReads, HexReads, LineEnds, OneLine}
-use Rattle.script.specs.declared.printed.Printed.the-variants.{Answer, Verdict, Unreadable}
+use Rattle.script.specs.declared.Printed.the-variants.{Answer, Verdict, Unreadable}
 use Rattle.script.proofs.Printing.{hex-length}
-
--- a digit's value, up to 9 and from A on
-low-digit : (b : ℕ) → 0x30 ≤ b → b ≤ 0x39 → digitOf b ≡ b - 0x30
-unfolding digitOf
-low-digit b h l = rw (le-ltb _ _ h, le-leb _ _ l)
-
-high-digit : (b : ℕ) → 0x41 ≤ b → b ≤ 0x46 → digitOf b ≡ b - 0x41 + 10
-unfolding digitOf
-high-digit b h l =
-    let x : 0x30 ≤ b = omega arith in
-    let y : 0x39 < b = omega arith in
-    rw (le-ltb _ _ x, lt-leb _ _ y, le-ltb _ _ h, le-leb _ _ l)
 
 -- a printed digit has its value
 digit-back : (d : ℕ) → d < 16 → digitOf (glyphOf d) ≡ d
 unfolding glyphOf
 digit-back d h =
     chosen (λ (g : ℕ). digitOf g ≡ d) (ltb d 10) (48 + d) (55 + d)
-    (λ e. let low = ltb-true d 10 e in low-digit (48 + d) (omega arith) (omega arith) ∙ omega arith)
-    (λ e. let high = ltb-false d 10 e in high-digit (55 + d) (omega arith) (omega arith) ∙ omega arith)
+    (λ e. let low = ltb-true d 10 e in digit-low (48 + d) (omega arith) (omega arith) ∙ omega arith)
+    (λ e. let high = ltb-false d 10 e in digit-upper (55 + d) (omega arith) (omega arith) ∙ omega arith)
 
 -- the two digits of a byte say it
 byte-back : (b : ℕ) → b < 256 → byteOf (glyphOf (b / 16)) (glyphOf (b % 16)) ≡ b

@@ -9,12 +9,12 @@ use native.Mathlib.Omega.{arith}
 use lib.Dec.{leb, ltb}
 use lib.ListN.{length, take, getD, length-append, take-append-drop}
 use lib.Seq.{length-take-le, take-suc}
-use borrow.Author.Tests.{lt-ltb, le-ltb, le-leb, lt-leb, ltb-true, ltb-false, leb-true, leb-false}
-use Rattle.wire.specs.Lent.{splice, onFront}
+use borrow.Author.Tests.{le-leb, lt-leb, ltb-true, ltb-false, leb-true, leb-false}
+use Rattle.wire.specs.Lent.{splice, onFront, filled, onto}
 use Rattle.wire.proofs.Choice.{either, chosen}
 use Rattle.wire.proofs.Lent.{front-more, splice-length}
 use Rattle.script.specs.Hex.{hexOf, twoOf}
-use Rattle.script.specs.Printed.{Printing, numberText, numberField, dataField, answerText, verdictText, printing, onto, printedIn, dataFits}
+use Rattle.script.specs.Printed.{numberText, numberField, dataField, answerText, verdictText, dataFits}
 
 pub put-nothing : (out : List ℕ) (i : ℕ) → splice out i [] ≡ out
 unfolding splice
@@ -43,28 +43,13 @@ three-length p q r = omega (arith, length-append p (q ++ r), length-append q r)
 
 -- three fields, each put where the one before it ends
 pub put-three : (out p q r a b c : List ℕ) (i j k : ℕ)
-    → a ≡ splice out 0 p → i ≡ 0 + length p → b ≡ splice a i q → j ≡ i + length q → c ≡ splice b j r → k ≡ j + length r → printing k c ≡ onto (p ++ (q ++ r)) out
+    → a ≡ splice out 0 p → i ≡ 0 + length p → b ≡ splice a i q → j ≡ i + length q → c ≡ splice b j r → k ≡ j + length r → filled k c ≡ onto (p ++ (q ++ r)) out
 put-three out p q r a b c i j k first at-q second at-r third end =
     let size : k ≡ length (p ++ (q ++ r)) = omega (arith, three-length p q r) in
     let one : a ≡ onFront p out = first ∙ put-first out p in
     let two : b ≡ onFront (p ++ q) out = second ∙ rw one (front-more out p q i (omega arith)) in
     let all : c ≡ onFront (p ++ (q ++ r)) out = third ∙ rw (two, ← append-assoc p q r) (front-more out (p ++ q) r j (omega (arith, length-append p q))) in
-    λ x. printing (size x) (all x)
-
--- a line where there is no room for it, and where there is
-pub no-room : (line text : List ℕ) → length text < length line → printing 0 text ≡ printedIn line text
-unfolding printedIn
-no-room line text h = rw (lt-ltb _ _ h)
-
-pub in-room : (line text : List ℕ) → length line ≤ length text → onto line text ≡ printedIn line text
-unfolding printedIn
-in-room line text h = rw (le-ltb _ _ h)
-
--- what is put lies within the memory
-pub within : (line text : List ℕ) → printedIn line text .count ≤ length text
-unfolding printedIn
-within line text =
-    chosen (λ (p : Printing). p .count ≤ length text) (ltb (length text) (length line)) _ _ (λ e. omega arith) (λ e. ltb-false _ _ e)
+    λ x. filled (size x) (all x)
 
 -- a number is at most three digits
 pub number-short : (n : ℕ) → length (numberText n) ≤ 3

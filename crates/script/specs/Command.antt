@@ -5,13 +5,13 @@ use mathlib.Core.List.{List}
 use lib.Dec.{eqb, ltb}
 use lib.ListN.{length}
 use Rattle.wire.specs.Lent.{onFront}
-use Rattle.exchange.specs.declared.request.Primary.{Primary}
-use Rattle.link.specs.declared.setup.Setup.{Setup}
-use Rattle.script.specs.Field.{fieldOf, behindOf, letterOf}
-use Rattle.script.specs.Number.{numberOf}
-use Rattle.script.specs.Hex.{isData, dataOf}
-use Rattle.script.specs.declared.command.Command.{Command}
-use Rattle.script.specs.declared.command.Command.the-variants.{Unreadable, Start, Open, Reply, ReleaseOwn, ReleaseIncoming, Bytes, Ticks, Drained, Verdict}
+use Rattle.exchange.specs.declared.Primary.{Primary}
+use Rattle.link.specs.declared.Setup.{Setup}
+use Rattle.text.specs.Field.{fieldOf, behindOf, letterOf}
+use Rattle.text.specs.Number.{numberOf}
+use Rattle.text.specs.Hex.{isData, dataOf}
+use Rattle.script.specs.declared.Command.{Command}
+use Rattle.script.specs.declared.Command.the-variants.{Unreadable, Start, Open, Reply, ReleaseOwn, ReleaseIncoming, Bytes, Ticks, Drained, Verdict}
 
 -- What reading a line leaves: the command, and every byte of the memory that was lent for the bytes it says.
 pub record Told : Type 0 where

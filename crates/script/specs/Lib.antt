@@ -1,5 +1,3 @@
-pub mod Field
-pub mod Number
 pub mod Hex
 pub mod Command
 pub mod Printed

@@ -4,11 +4,9 @@ use Prim.Native.Nat.{ℕ, _+_, _-_, _/_, _%_}
 use mathlib.Core.Bool.{Bool, false, cond}
 use mathlib.Core.List.{List, [], _∷_, _++_}
 use lib.Dec.{leb, ltb}
-use lib.ListN.{length}
-use Rattle.wire.specs.Lent.{onFront}
 use Rattle.script.specs.Hex.{hexOf}
-use Rattle.script.specs.declared.printed.Printed.{Printed}
-use Rattle.script.specs.declared.printed.Printed.the-variants.{Answer, Verdict, Unreadable}
+use Rattle.script.specs.declared.Printed.{Printed}
+use Rattle.script.specs.declared.Printed.the-variants.{Answer, Verdict, Unreadable}
 
 -- the last decimal digit of a number
 abbrev pub onesOf : ℕ → ℕ
@@ -47,22 +45,6 @@ abbrev pub textOf : Printed → List ℕ → List ℕ
 textOf (Answer number note) bytes = answerText number bytes note
 textOf (Verdict place verdict) bytes = verdictText place verdict
 textOf Unreadable bytes = unreadableText
-
--- What printing leaves: how many bytes were put, and every byte of the memory that was lent.
-pub record Printing : Type 0 where
-  pub count : ℕ
-  pub text : List ℕ
-
-abbrev pub printing : ℕ → List ℕ → Printing
-printing n text = record { count = n; text = text }
-
--- a line at the front of memory that has room for it
-abbrev pub onto : List ℕ → List ℕ → Printing
-onto line text = printing (length line) (onFront line text)
-
--- all of a line, or nothing where there is no room for all of it
-unfoldable pub printedIn : List ℕ → List ℕ → Printing
-printedIn line text = cond (ltb (length text) (length line)) (printing 0 text) (onto line text)
 
 -- whether so many bytes in hex, or `-`, and a space fit
 unfoldable pub dataFits : ℕ → ℕ → Bool

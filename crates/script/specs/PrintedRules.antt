@@ -5,9 +5,10 @@ use mathlib.Core.Bool.{true}
 use mathlib.Core.List.{List, [], _∷_, _++_}
 use lib.ListN.{length, getD}
 use Rattle.wire.specs.Bytes.{Bytes}
-use Rattle.script.specs.Hex.{dataOf, hexOf, isData}
+use Rattle.text.specs.Hex.{dataOf, isData}
+use Rattle.script.specs.Hex.{hexOf}
 use Rattle.script.specs.Printed.{dataText, textOf}
-use Rattle.script.specs.declared.printed.Printed.{Printed}
+use Rattle.script.specs.declared.Printed.{Printed}
 
 -- what is printed in hex reads back as the same bytes
 abbrev pub HexReads : Type 0

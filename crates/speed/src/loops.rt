@@ -41,7 +41,7 @@ fn blocks(turns: u64, room: &mut [u8; 36864], out: &mut [u8; 257]) -> u64 {
     let mut at: u64 = 0;
     let mut i: u64 = 0;
     while i < turns {
-        let answer = link.byte(block_byte(at), room, out);
+        let answer = unit::byte(link, block_byte(at), room, out);
         sum = plus(sum, answer.count, answer.link.block);
         link = answer.link;
         at = following(at);
@@ -62,7 +62,7 @@ fn others(turns: u64, room: &mut [u8; 36864], out: &mut [u8; 257]) -> u64 {
     let mut sum: u64 = 0;
     let mut i: u64 = 0;
     while i < turns {
-        let answer = link.byte(7, room, out);
+        let answer = unit::byte(link, 7, room, out);
         sum = plus(sum, answer.count, answer.link.block);
         link = answer.link;
         i += 1;
@@ -82,7 +82,7 @@ fn still(turns: u64, room: &mut [u8; 36864], out: &mut [u8; 257]) -> u64 {
     let mut sum: u64 = 0;
     let mut i: u64 = 0;
     while i < turns {
-        let answer = link.tick(room, out);
+        let answer = unit::tick(link, room, out);
         sum = plus(sum, answer.count, answer.link.block);
         link = answer.link;
         i += 1;
@@ -108,7 +108,7 @@ fn ticks(
     let mut sum = before;
     let mut i: u64 = 0;
     while i < turns {
-        let answer = link.tick(room, out);
+        let answer = unit::tick(link, room, out);
         sum = plus(sum, answer.count, answer.link.block);
         link = answer.link;
         i += 1;

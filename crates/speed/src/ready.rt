@@ -23,12 +23,12 @@ pub(crate) fn fresh() -> Link {
         duplicates: 1,
         last: 0,
     };
-    let answer = Link::start(setup);
+    let answer = unit::start(setup);
     answer.link
 }
 
 // Sends S1F1 with W, a block without data: ENQ leaves, EOT comes, the block leaves, ACK comes. Then its reply is awaited.
-fn asked(link: Link, room: &mut [u8; 36864], out: &mut [u8; 257]) -> Link {
+fn asked(mut link: Link, room: &mut [u8; 36864], out: &mut [u8; 257]) -> Link {
     let primary = Primary {
         source: 1,
         w: true,
@@ -36,22 +36,23 @@ fn asked(link: Link, room: &mut [u8; 36864], out: &mut [u8; 257]) -> Link {
         function: 1,
     };
     let none: [u8; 1] = [0];
-    let opened = link.open(primary, &none[..0], room, out).link;
-    let sending = opened.byte(4, room, out).link;
-    let sent = sending.drained(room, out).link;
-    sent.byte(6, room, out).link
+    link = unit::open(link, primary, &none[..0], room, out).link;
+    link = unit::byte(link, 4, room, out).link;
+    link = unit::drained(link, room, out).link;
+    link = unit::byte(link, 6, room, out).link;
+    link
 }
 
 // Takes each byte in turn.
 fn fed(link: Link, bytes: &[u8], room: &mut [u8; 36864], out: &mut [u8; 257]) -> Link {
-    let mut unit = link;
+    let mut next = link;
     let mut i: usize = 0;
     while i < bytes.len() {
-        let answer = unit.byte(bytes[i], room, out);
-        unit = answer.link;
+        let answer = unit::byte(next, bytes[i], room, out);
+        next = answer.link;
         i += 1;
     }
-    unit
+    next
 }
 
 // Takes the first block of a message, with E = 0, so that more are to come: ENQ, length 11, the header with these system bytes,
@@ -63,14 +64,16 @@ fn opened(link: Link, system: u8, sum: u8, room: &mut [u8; 36864], out: &mut [u8
 
 // Four replies are awaited, and four messages are open.
 pub(crate) fn waiting(room: &mut [u8; 36864], out: &mut [u8; 257]) -> Link {
-    let one = asked(fresh(), room, out);
-    let two = asked(one, room, out);
-    let three = asked(two, room, out);
-    let four = asked(three, room, out);
-    let five = opened(four, 1, 0x84, room, out);
-    let six = opened(five, 2, 0x85, room, out);
-    let seven = opened(six, 3, 0x86, room, out);
-    opened(seven, 4, 0x87, room, out)
+    let mut link = fresh();
+    link = asked(link, room, out);
+    link = asked(link, room, out);
+    link = asked(link, room, out);
+    link = asked(link, room, out);
+    link = opened(link, 1, 0x84, room, out);
+    link = opened(link, 2, 0x85, room, out);
+    link = opened(link, 3, 0x86, room, out);
+    link = opened(link, 4, 0x87, room, out);
+    link
 }
 
 // The timer of an own place whose reply is awaited, else 0.
@@ -113,8 +116,8 @@ fn timers_at(link: Link, place: usize) -> u64 {
     let exchange = link.exchange;
     let own = exchange.own;
     let incoming = exchange.incoming;
-    let awaited = own_timer(table::own_at(own, place));
-    let opened = incoming_timer(table::incoming_at(incoming, place));
+    let awaited = own_timer(seek::own_at(own, place));
+    let opened = incoming_timer(seek::incoming_at(incoming, place));
     std::num::wrapping_add_u64(awaited, opened)
 }
 

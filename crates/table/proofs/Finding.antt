@@ -13,14 +13,14 @@ use Rattle.wire.proofs.Choice.{chosen, both}
 use Rattle.header.specs.declared.header.Header.{Header}
 use Rattle.place.specs.Own.{freshOwn, ownIsFree, ownTakes}
 use Rattle.place.specs.Incoming.{freshIncoming, primaryOf, incomingIsFree, incomingIsOpen, incomingTakes}
-use Rattle.place.specs.declared.own.Own.{Own}
-use Rattle.place.specs.declared.incoming.Incoming.{Incoming}
+use Rattle.place.specs.declared.Own.{Own}
+use Rattle.place.specs.declared.Incoming.{Incoming}
 use Rattle.table.specs.Find.{firstFrom, firstOf}
 use Rattle.table.specs.Own.{freeOwn, replyFor}
 use Rattle.table.specs.Incoming.{freeIncoming, messageFor, alike, openAlike}
 use Rattle.table.specs.Theorems.{Lowest, Alike, FoundExactly, FreeOwnLowest, ReplyLowest, FreeIncomingLowest, MessageLowest, OpenAlikeLowest}
-use Rattle.table.specs.declared.find.Found.{Found}
-use Rattle.table.specs.declared.find.Found.the-variants.{At, Nowhere}
+use Rattle.table.specs.declared.Found.{Found}
+use Rattle.table.specs.declared.Found.the-variants.{At, Nowhere}
 use Rattle.table.proofs.Firsts.{ahead}
 use Rattle.table.proofs.Fours.{map-at}
 

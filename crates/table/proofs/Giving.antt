@@ -13,7 +13,7 @@ use borrow.Author.Tests.{eqb-true, eq-eqb, ne-eqb}
 use Rattle.wire.proofs.Choice.{chosen, either, either-of}
 use Rattle.header.specs.Header.{headerOf}
 use Rattle.place.specs.Own.{freshOwn, ownIsFree, primaryOf}
-use Rattle.place.specs.declared.own.Own.{Own}
+use Rattle.place.specs.declared.Own.{Own}
 use Rattle.table.specs.Number.{numberOf, heldNumber, following, among, firstAfter, passedOver, nextNumber}
 use Rattle.table.specs.Theorems.{FollowingNumber, numberAfter, InUse, PassedOver, FirstLeft, NumberGiven, SystemDistinct, NumberTable}
 use Rattle.table.proofs.Numbers.{following-fits, wait, wait-le}

@@ -7,9 +7,9 @@ use lib.ListN.{getD, set}
 use Rattle.header.specs.declared.header.Header.{Header}
 use Rattle.settings.specs.declared.terms.Terms.{Terms}
 use Rattle.place.specs.Incoming.{freshIncoming, primaryOf, incomingIsFree, incomingIsOpen, incomingTakes, incomingTick}
-use Rattle.place.specs.declared.incoming.Incoming.{Incoming}
+use Rattle.place.specs.declared.Incoming.{Incoming}
 use Rattle.table.specs.Find.{firstOf}
-use Rattle.table.specs.declared.find.Found.{Found}
+use Rattle.table.specs.declared.Found.{Found}
 
 -- the place; one outside the table is as a free one
 abbrev pub incomingAt : List Incoming → ℕ → Incoming

@@ -4,7 +4,7 @@ use mathlib.Core.Bool.{Bool, false, cond, _||_}
 use mathlib.Core.List.{List, [], _∷_, map}
 use lib.Dec.{eqb}
 use Rattle.place.specs.Own.{primaryOf, ownIsFree}
-use Rattle.place.specs.declared.own.Own.{Own}
+use Rattle.place.specs.declared.Own.{Own}
 
 -- "System bytes: the caller's 16-bit source ID, then the number."
 unfoldable pub numberOf : Own → ℕ

@@ -6,9 +6,9 @@ use lib.ListN.{getD, set}
 use Rattle.header.specs.declared.header.Header.{Header}
 use Rattle.settings.specs.declared.terms.Terms.{Terms}
 use Rattle.place.specs.Own.{freshOwn, ownIsFree, ownTakes, ownTick}
-use Rattle.place.specs.declared.own.Own.{Own}
+use Rattle.place.specs.declared.Own.{Own}
 use Rattle.table.specs.Find.{firstOf}
-use Rattle.table.specs.declared.find.Found.{Found}
+use Rattle.table.specs.declared.Found.{Found}
 
 -- the place; one outside the table is as a free one
 abbrev pub ownAt : List Own → ℕ → Own

@@ -9,15 +9,15 @@ use Rattle.header.specs.declared.header.Header.{Header}
 use Rattle.settings.specs.declared.terms.Terms.{Terms}
 use Rattle.place.specs.Own.{freshOwn, ownIsFree, ownTick, ownTakes, primaryOf as ownPrimary}
 use Rattle.place.specs.Incoming.{freshIncoming, incomingIsFree, incomingIsOpen, incomingTick, incomingTakes, primaryOf as incomingPrimary}
-use Rattle.place.specs.declared.own.Own.{Own}
-use Rattle.place.specs.declared.own.OwnStage.the-variants.{Sending}
-use Rattle.place.specs.declared.incoming.Incoming.{Incoming}
+use Rattle.place.specs.declared.Own.{Own}
+use Rattle.place.specs.declared.OwnStage.the-variants.{Sending}
+use Rattle.place.specs.declared.Incoming.{Incoming}
 use Rattle.table.specs.Find.{firstOf}
 use Rattle.table.specs.Own.{ownAt, withOwn, tickedOwn, freeOwn, replyFor}
 use Rattle.table.specs.Incoming.{incomingAt, withIncoming, tickedIncoming, freeIncoming, messageFor, openAlike}
 use Rattle.table.specs.Number.{following, nextNumber}
-use Rattle.table.specs.declared.find.Found.{Found}
-use Rattle.table.specs.declared.find.Found.the-variants.{At, Nowhere}
+use Rattle.table.specs.declared.Found.{Found}
+use Rattle.table.specs.declared.Found.the-variants.{At, Nowhere}
 
 -- ---- a table
 

@@ -1,23 +1,12 @@
 // The two tables of four places (01: "up to 4 own transactions open"; "4 incoming areas"), each an array of places that goes by
-// value: which place an event is for, which is the lowest free one, a tick at all of them, and the next transaction number.
+// value: which place an event is for, which is the lowest free one, a tick at all of them, and the next transaction number. A place
+// outside the table is as a free one, and putting one there changes nothing.
 //
-// A place outside the table is as a free one, and putting one there changes nothing. So no function has a `requires`.
-mod find;
-mod incoming;
-mod number;
-mod own;
+// The model: what a search finds is here, definitions and statements in `specs/`, and the proofs about them. The functions are crate
+// `seek`.
 
-pub use find::Found;
-pub use incoming::free_incoming;
-pub use incoming::incoming_at;
-pub use incoming::message_for;
-pub use incoming::open_alike;
-pub use incoming::put_incoming;
-pub use incoming::tick_incoming;
-pub use number::next_number;
-pub use number::number_of;
-pub use own::free_own;
-pub use own::own_at;
-pub use own::put_own;
-pub use own::reply_for;
-pub use own::tick_own;
+// Which place of four is meant.
+pub enum Found {
+    At(usize),
+    Nowhere,
+}

@@ -2,13 +2,17 @@
 use Prim.Native.Nat.{ℕ, _+_, _-_, _≤_, _<_}
 use mathlib.Core.Path.{_≡_, refl, sym, ap, _∙_}
 use mathlib.Core.List.{List, [], _++_, append-assoc, append-nil}
-use native.Mathlib.Nat.{add-zero}
+use native.Mathlib.Nat.{add-zero, sub-self}
 use native.Mathlib.Omega.{arith}
 use lib.ListN.{length, take, drop, getD, length-append, length-drop}
 use lib.Seq.{length-take-le, take-length, take-all, take-at, take-take, take-append-le, drop-at, drop-drop, drop-length, drop-append-add, drop-append-le, getD-take, getD-drop}
+use lib.Dec.{ltb}
+use borrow.Author.Tests.{le-leb, lt-leb, lt-ltb, le-ltb, ltb-false}
 use borrow.Rule.Slice.PartMut.{putMid}
 use Rattle.wire.specs.Bytes.{part}
-use Rattle.wire.specs.Lent.{splice, onFront}
+use Rattle.wire.specs.Lent.{splice, putAt, onFront, Filled, filled, onto, filledWith}
+use Rattle.wire.specs.Theorems.{PutsAllOrNothing, FillsAllOrNothing}
+use Rattle.wire.proofs.Choice.{chosen}
 use Rattle.wire.proofs.Parts.{part-of-front}
 
 -- a copy into the part of `out` from index i on, once that part is back
@@ -89,3 +93,55 @@ module _ (l : List ℕ) (i : ℕ) (bs : List ℕ) (fits : i + length bs ≤ leng
       let before = length-take-le i l (omega arith) in
       part-of-front a (i + length bs) (splice l i bs) (omega arith) (omega arith) ∙ ap (drop a) splice-front
       ∙ drop-append-le a (take i l) bs (omega arith) ∙ ap (λ (xs : List ℕ). xs ++ bs) (sym (part-of-front a i l h (omega arith)))
+
+-- bytes that have room are put, and bytes that have none are not
+pub put-fits : (l : List ℕ) (i : ℕ) (bs : List ℕ) → i + length bs ≤ length l → putAt l i bs ≡ splice l i bs
+unfolding putAt
+put-fits l i bs fits = rw (le-leb (i + length bs) (length l) fits)
+
+pub put-none : (l : List ℕ) (i : ℕ) (bs : List ℕ) → length l < i + length bs → putAt l i bs ≡ l
+unfolding putAt
+put-none l i bs short = rw (lt-leb (i + length bs) (length l) short)
+
+-- bytes put behind a front that they have room behind belong to the front
+pub front-put : (out p bs : List ℕ) (n : ℕ) → length p ≡ n → n + length bs ≤ length out → putAt (onFront p out) n bs ≡ onFront (p ++ bs) out
+unfolding onFront
+front-put out p bs n e fits =
+    put-fits (onFront p out) n bs (omega (arith, length-append p (drop (length p) out), length-drop (length p) out)) ∙ front-more out p bs n e
+
+pub puts-all-or-nothing : PutsAllOrNothing
+unfolding part
+puts-all-or-nothing l i bs = record {
+  there = λ fits. ap (part i (i + length bs)) (put-fits l i bs fits) ∙ part-joined l i bs fits i (omega arith) ∙ ap (λ (n : ℕ). take n (drop i l) ++ bs) (sub-self i);
+  before = λ fits. ap (take i) (put-fits l i bs fits) ∙ splice-below l i bs fits i (omega arith);
+  behind = λ fits. ap (drop (i + length bs)) (put-fits l i bs fits) ∙ splice-above l i bs fits (i + length bs) (omega arith);
+  no-room = put-none l i bs;
+}
+
+-- ---- memory filled from its front
+
+-- where there is no room, and where there is
+pub no-room : (p out : List ℕ) → length out < length p → filled 0 out ≡ filledWith p out
+unfolding filledWith
+no-room p out h = rw (lt-ltb _ _ h)
+
+pub in-room : (p out : List ℕ) → length p ≤ length out → onto p out ≡ filledWith p out
+unfolding filledWith
+in-room p out h = rw (le-ltb _ _ h)
+
+-- what is put lies within the memory
+pub within : (p out : List ℕ) → filledWith p out .count ≤ length out
+unfolding filledWith
+within p out = chosen (λ (f : Filled). f .count ≤ length out) (ltb (length out) (length p)) _ _ (λ e. omega arith) (λ e. ltb-false _ _ e)
+
+pub fills-all-or-nothing : FillsAllOrNothing
+unfolding onFront
+fills-all-or-nothing p out =
+    let count : Filled → ℕ = λ f. f .count in
+    let memory : Filled → List ℕ = λ f. f .memory in
+    record {
+      counted = λ fits. ap count (sym (in-room p out fits));
+      there = λ fits. ap (λ (f : Filled). take (length p) (f .memory)) (sym (in-room p out fits)) ∙ take-at p (drop (length p) out) (length p) refl;
+      behind = λ fits. ap (λ (f : Filled). drop (length p) (f .memory)) (sym (in-room p out fits)) ∙ drop-at p (drop (length p) out) (length p) refl;
+      no-room = λ short. (ap count (sym (no-room p out short)), ap memory (sym (no-room p out short)));
+    }

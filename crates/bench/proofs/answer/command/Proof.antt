@@ -5,8 +5,8 @@ use mathlib.Core.List.{List}
 use native.Mathlib.Omega.{arith}
 use Rattle.link.specs.Call.{openCall, replyCall}
 use Rattle.link.specs.Run.{left}
-use Rattle.bench.specs.Run.{running, nothingRan, bytesRun}
-use Rattle.bench.specs.Answer.{done, shownAs, benchOf}
+use Rattle.talk.specs.Run.{running, nothingRan, bytesRun}
+use Rattle.talk.specs.Answer.{done, shownAs, benchOf}
 use Rattle.bench.proofs.Joining.{few, by-call, by-run}
 use mathlib.Core.Bool.{true}
 use Rattle.link.specs.History as call

@@ -3,9 +3,9 @@ use mathlib.Core.Path.{refl, sym, ap, _∙_}
 use lib.ListN.{length}
 use Rattle.link.specs.Run.{left}
 use Rattle.script.specs.Command.{Told}
-use Rattle.bench.specs.Answer.{done, commandDone, earlyShown, lineDone}
+use Rattle.talk.specs.Answer.{done, commandDone, earlyShown, lineDone}
 use lib.ListN.{replicate}
-use Rattle.script.proofs.Commanding.{read-length}
+use Rattle.scribe.proofs.Commanding.{read-length}
 use borrow.Author.Needs.{needs}
 use Rattle.bench.proofs.answer.line.Statement.{statement}
 use Rattle.bench.proofs.answer.line.Tie as tie

@@ -1,7 +1,7 @@
 -- `nothing_started` meets its contract. Assumes nothing.
 use mathlib.Core.Path.{ap}
-use Rattle.link.specs.declared.answer.Answer.{Answer}
-use Rattle.bench.specs.Answer.{benchOf}
+use Rattle.link.specs.declared.Answer.{Answer}
+use Rattle.talk.specs.Answer.{benchOf}
 use mathlib.Core.Bool.{false}
 use borrow.Author.Needs.{needs}
 use Rattle.bench.proofs.answer.nothing_started.Statement.{statement}

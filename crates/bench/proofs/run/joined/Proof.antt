@@ -8,4 +8,4 @@ joined-spec =
     tie.close
     (tie.spec
     (λ c κs. search needs) (λ c κs. search needs) (λ c. search needs)
-    (λ c. rw (c .before .before .number .ensures, c .before .number2 .ensures)))
+    (λ c. rw (c .before .before .outcome-number .ensures, c .before .note-number .ensures)))

@@ -5,9 +5,9 @@ use native.Mathlib.Omega.{arith}
 use lib.ListN.{length}
 use Rattle.link.specs.Run.{left}
 use Rattle.link.specs.History as call
-use Rattle.bench.specs.Run.{Running, running, ticksRun}
+use Rattle.talk.specs.Run.{Running, running, ticksRun}
 use Rattle.bench.proofs.Joining.{fits, ticks-on, ticks-end}
-use Rattle.bench.specs.declared.run.Ran.{Ran}
+use Rattle.talk.specs.declared.Ran.{Ran}
 use borrow.Author.Needs.{needs}
 use Rattle.bench.proofs.run.ticks.Statement.{statement}
 use Rattle.bench.proofs.run.ticks.Tie as tie

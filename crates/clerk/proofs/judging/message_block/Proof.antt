@@ -1,0 +1,23 @@
+-- `judging::message_block` meets its contract. Assumes nothing.
+use Rattle.exchange.specs.Judge.{messageBlock}
+use borrow.Author.Needs.{needs}
+use Rattle.clerk.proofs.judging.message_block.Statement.{statement}
+use Rattle.clerk.proofs.judging.message_block.Tie as tie
+
+pub message-block-spec : {M : Type 1} → statement M
+unfolding messageBlock
+message-block-spec =
+    tie.close
+    (tie.spec
+    (λ c κs. search needs)
+    (λ c κs. search needs)
+    (λ c κs. search needs)
+    (λ c κs. search needs)
+    (λ c κs. search needs)
+    (λ c κs. search needs)
+    (λ c κs. search needs)
+    (λ c κs. search needs)
+    (λ c κs. search needs)
+    (λ c κs. search needs)
+    (λ c. search needs)
+    (λ c. simp (c .before .is-spoilt .ensures, c .before .before .is-last .ensures, c .before .before .before .note-of .ensures, c .before .before .before .before .with-incoming .ensures, c .before .before .before .before .before .before .before .keep-by .ensures, c .before .before .before .before .before .before .before .before .before .offered .ensures, c .before .before .before .before .before .before .before .before .before .before .fate-of .ensures, c .before .before .before .before .before .before .before .before .before .before .before .length .ensures, c .before .before .before .before .before .before .before .before .before .before .before .before .incoming-place .ensures, c .incoming-flags .ensures)))

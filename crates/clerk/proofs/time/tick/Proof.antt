@@ -1,0 +1,17 @@
+-- `time::tick` meets its contract. Assumes nothing.
+use Rattle.exchange.specs.Tick.{tickOf}
+use borrow.Author.Needs.{needs}
+use Rattle.clerk.proofs.time.tick.Statement.{statement}
+use Rattle.clerk.proofs.time.tick.Tie as tie
+
+pub tick-spec : {M : Type 1} → statement M
+unfolding tickOf
+tick-spec =
+    tie.close
+    (tie.spec
+    (λ c κs. search needs)
+    (λ c κs. search needs)
+    (λ c κs. search needs)
+    (λ c κs. search needs)
+    (λ c κs. search needs)
+    (λ c. simp (c .before .got-marks .ensures, c .before .before .latest-over .ensures, c .before .before .before .before .tick-incoming .ensures, c .before .before .before .before .before .tick-own .ensures, c .gone-marks .ensures)))

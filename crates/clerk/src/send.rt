@@ -1,0 +1,127 @@
+// The message that is being sent: what it is, and how its sending ends.
+ghost use mathlib.Core.Path.{_≡_};
+ghost use Rattle.exchange.specs.Send.{endedOwn, endedReply, failedOf, outgoingOf, replyTo, sentOf};
+use crate::flags::no_flags;
+use crate::flags::verdict_flag;
+use crate::state::got_verdict;
+use crate::state::incoming_place;
+use crate::state::own_place;
+use crate::state::with_incoming;
+use crate::state::with_own;
+use crate::state::with_sending;
+use exchange::Exchange;
+use exchange::Outgoing;
+use exchange::Sending;
+use exchange::Told;
+use header::Header;
+use life::incoming;
+use life::own;
+use place::Incoming;
+use place::Own;
+
+// The header of a reply: the complement of the R-bit (E4 7.3.1), W = 0, and else the primary's.
+fn reply_to(primary: Header, function: u8) -> Header
+    ensures { λ r. ⌜ r ≡ replyTo primary function ⌝ }
+{
+    Header {
+        r: !primary.r,
+        device: primary.device,
+        w: false,
+        stream: primary.stream,
+        function,
+        e: false,
+        number: 0,
+        system: primary.system,
+    }
+}
+
+// What is being sent or held.
+pub fn outgoing(exchange: Exchange) -> Outgoing
+    ensures { λ r. ⌜ r ≡ outgoingOf exchange ⌝ }
+{
+    let sending = exchange.sending;
+    match sending {
+        Sending::Nothing => Outgoing::Nothing,
+        Sending::Primary { place, length } => Outgoing::Message {
+            header: own::primary(own_place(exchange, place)),
+            length,
+        },
+        Sending::Reply {
+            place,
+            function,
+            length,
+        } => Outgoing::Message {
+            header: reply_to(incoming::primary(incoming_place(exchange, place)), function),
+            length,
+        },
+    }
+}
+
+// The sending of a primary is over.
+fn ended_own(exchange: Exchange, place: usize, after: Own) -> Told
+    ensures { λ r. ⌜ r ≡ endedOwn exchange place after ⌝ }
+{
+    let before = own_place(exchange, place);
+    let flags = verdict_flag(place, got_verdict(before, after));
+    let exchange = with_sending(with_own(exchange, place, after), Sending::Nothing);
+    Told { exchange, flags }
+}
+
+// The sending of a reply is over: "a reply of ours that ends raises" no flag.
+fn ended_reply(exchange: Exchange, place: usize, after: Incoming) -> Told
+    ensures { λ r. ⌜ r ≡ endedReply exchange place after ⌝ }
+{
+    let flags = no_flags();
+    let exchange = with_sending(with_incoming(exchange, place, after), Sending::Nothing);
+    Told { exchange, flags }
+}
+
+// The last block of the message being sent was acknowledged.
+pub fn sent(exchange: Exchange) -> Told
+    ensures { λ r. ⌜ r ≡ sentOf exchange ⌝ }
+{
+    let sending = exchange.sending;
+    match sending {
+        Sending::Nothing => Told {
+            exchange,
+            flags: no_flags(),
+        },
+        Sending::Primary { place, length: _ } => {
+            ended_own(exchange, place, own::sent(own_place(exchange, place)))
+        }
+        Sending::Reply {
+            place,
+            function: _,
+            length: _,
+        } => ended_reply(
+            exchange,
+            place,
+            incoming::sent(incoming_place(exchange, place)),
+        ),
+    }
+}
+
+// A block of the message being sent failed.
+pub fn failed(exchange: Exchange) -> Told
+    ensures { λ r. ⌜ r ≡ failedOf exchange ⌝ }
+{
+    let sending = exchange.sending;
+    match sending {
+        Sending::Nothing => Told {
+            exchange,
+            flags: no_flags(),
+        },
+        Sending::Primary { place, length: _ } => {
+            ended_own(exchange, place, own::failed(own_place(exchange, place)))
+        }
+        Sending::Reply {
+            place,
+            function: _,
+            length: _,
+        } => ended_reply(
+            exchange,
+            place,
+            incoming::failed(incoming_place(exchange, place)),
+        ),
+    }
+}

@@ -1,0 +1,155 @@
+// A tick: "own places 0 to 3, then incoming places 0 to 3" (01, "Messages").
+ghost use mathlib.Core.Path.{_≡_};
+ghost use Rattle.exchange.specs.Tick.{gotMarks, goneMarks, incomingsTimed, isStill, latestOver, ownTimed, ownsTimed, tickOf, wasDropped};
+use crate::state::got_verdict;
+use crate::state::latest_after;
+use exchange::Exchange;
+use exchange::Flags;
+use exchange::Numbers;
+use exchange::Told;
+use life::incoming;
+use place::Incoming;
+use place::Own;
+use place::OwnStage;
+use seek::incoming_at;
+use seek::own_at;
+use seek::tick_incoming;
+use seek::tick_own;
+use settings::Terms;
+
+fn got_marks(before: [Own; 4], after: [Own; 4]) -> [bool; 4]
+    ensures { λ r. ⌜ r ≡ gotMarks before after ⌝ }
+{
+    [
+        got_verdict(own_at(before, 0), own_at(after, 0)),
+        got_verdict(own_at(before, 1), own_at(after, 1)),
+        got_verdict(own_at(before, 2), own_at(after, 2)),
+        got_verdict(own_at(before, 3), own_at(after, 3)),
+    ]
+}
+
+// Of several verdicts in one tick that of the highest place is the latest.
+fn latest_over(latest: u16, before: [Own; 4], after: [Own; 4]) -> u16
+    ensures { λ r. ⌜ r ≡ latestOver latest before after ⌝ }
+{
+    let first = latest_after(latest, own_at(before, 0), own_at(after, 0));
+    let second = latest_after(first, own_at(before, 1), own_at(after, 1));
+    let third = latest_after(second, own_at(before, 2), own_at(after, 2));
+    latest_after(third, own_at(before, 3), own_at(after, 3))
+}
+
+// A tick drops an open message whose T4 runs out.
+fn was_dropped(before: Incoming, after: Incoming) -> bool
+    ensures { λ r. ⌜ r ≡ wasDropped before after ⌝ }
+{
+    if incoming::is_open(before) {
+        return incoming::is_free(after);
+    }
+    false
+}
+
+fn gone_marks(before: [Incoming; 4], after: [Incoming; 4]) -> [bool; 4]
+    ensures { λ r. ⌜ r ≡ goneMarks before after ⌝ }
+{
+    [
+        was_dropped(incoming_at(before, 0), incoming_at(after, 0)),
+        was_dropped(incoming_at(before, 1), incoming_at(after, 1)),
+        was_dropped(incoming_at(before, 2), incoming_at(after, 2)),
+        was_dropped(incoming_at(before, 3), incoming_at(after, 3)),
+    ]
+}
+
+// Whether a timer runs at an own place: T3 or T4.
+fn is_timed(place: Own) -> bool
+    ensures { λ r. ⌜ r ≡ ownTimed place ⌝ }
+{
+    let stage = place.stage;
+    match stage {
+        OwnStage::Free => false,
+        OwnStage::Sending => false,
+        OwnStage::Awaiting { timer: _ } => true,
+        OwnStage::Replying {
+            timer: _,
+            next: _,
+            reply: _,
+        } => true,
+        OwnStage::Done {
+            verdict: _,
+            reply: _,
+        } => false,
+    }
+}
+
+fn owns_timed(own: [Own; 4]) -> bool
+    ensures { λ r. ⌜ r ≡ ownsTimed own ⌝ }
+{
+    if is_timed(own_at(own, 0)) {
+        return true;
+    }
+    if is_timed(own_at(own, 1)) {
+        return true;
+    }
+    if is_timed(own_at(own, 2)) {
+        return true;
+    }
+    is_timed(own_at(own, 3))
+}
+
+fn incomings_timed(incoming: [Incoming; 4]) -> bool
+    ensures { λ r. ⌜ r ≡ incomingsTimed incoming ⌝ }
+{
+    if incoming::is_open(incoming_at(incoming, 0)) {
+        return true;
+    }
+    if incoming::is_open(incoming_at(incoming, 1)) {
+        return true;
+    }
+    if incoming::is_open(incoming_at(incoming, 2)) {
+        return true;
+    }
+    incoming::is_open(incoming_at(incoming, 3))
+}
+
+// Whether no timer runs: then a tick changes nothing.
+pub fn is_still(exchange: Exchange) -> bool
+    ensures { λ r. ⌜ r ≡ isStill exchange ⌝ }
+{
+    let own = exchange.own;
+    let incoming = exchange.incoming;
+    if owns_timed(own) {
+        return false;
+    }
+    !incomings_timed(incoming)
+}
+
+// 0.1 s have passed.
+pub fn tick(exchange: Exchange, terms: Terms) -> Told
+    ensures { λ r. ⌜ r ≡ tickOf terms exchange ⌝ }
+{
+    let own_before = exchange.own;
+    let incoming_before = exchange.incoming;
+    let own = tick_own(own_before, terms);
+    let incoming = tick_incoming(incoming_before, terms);
+    let saved = exchange.saved;
+    let sending = exchange.sending;
+    let numbers = Numbers {
+        last: exchange.numbers.last,
+        latest: latest_over(exchange.numbers.latest, own_before, own),
+    };
+    let verdicts = got_marks(own_before, own);
+    let completed = [false; 4];
+    let dropped = gone_marks(incoming_before, incoming);
+    let exchange = Exchange {
+        own,
+        incoming,
+        saved,
+        numbers,
+        sending,
+    };
+    let flags = Flags {
+        verdicts,
+        completed,
+        dropped,
+    };
+    Told { exchange, flags }
+}

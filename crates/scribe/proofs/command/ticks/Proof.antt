@@ -1,0 +1,20 @@
+-- `command::ticks` meets its contract. Assumes nothing.
+use mathlib.Core.Path.{_≡_}
+use borrow.Author.Tests.{lt-ltb, le-ltb}
+use Rattle.text.specs.Number.{numberOf}
+use Rattle.script.specs.Command.{ticksBy}
+use borrow.Author.Needs.{needs}
+use Rattle.scribe.proofs.command.ticks.Statement.{statement}
+use Rattle.scribe.proofs.command.ticks.Tie as tie
+
+at0 : (c : tie.After-number) → c .number .result ≡ numberOf (c .before .before .args .text .now)
+at0 c = c .number .ensures
+
+pub ticks-spec : {M : Type 1} → statement M
+unfolding ticksBy
+ticks-spec =
+    tie.close
+    (tie.spec
+    (λ c κs. search needs)
+    (λ c. simp (lt-ltb _ _ (rw (at0 (c .before)) at (c .if1 .taken))))
+    (λ c. simp (le-ltb _ _ (rw (at0 (c .before)) at (c .if1 .left)), at0 (c .before))))

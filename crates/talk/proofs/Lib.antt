@@ -1,0 +1,2 @@
+-- `Listing`: 01's listing.
+pub mod Listing

@@ -1,0 +1,48 @@
+-- 01's listing: all definitions on the way from a line to what is printed for it are run. Assumes nothing.
+use mathlib.Core.Path.{refl}
+use Rattle.wire.specs.Bytes.{part}
+use Rattle.wire.specs.Lent.{splice, onFront, filledWith}
+use Rattle.wire.specs.Sum.{plainSum, checksumOf, sumWith}
+use Rattle.settings.specs.Limits.{panelInRange, takenOf, limitsInRange}
+use Rattle.settings.specs.Panel.{between}
+use Rattle.settings.specs.Terms.{messagePanelInRange, agreedOf, termsInRange}
+use Rattle.settings.specs.Timer.{ticked}
+use Rattle.line.specs.Line.{holding, spent, retryOf, giveWay, eotByte, ackByte, lengthByte, lowByte, bodyByte, idleByte, settleIdle}
+use Rattle.line.specs.Range.{waitInRange, arrivalInRange, bodyInRange}
+use Rattle.header.specs.Header.{headerBytes, headerOf}
+use Rattle.cut.specs.Blocks.{blockCount, partLength, hasBlock, headerAt, cutOf}
+use Rattle.block.specs.Block.{framed, outputShort, lengthGood, refusedWrite, takenWrite, writeOf, sumsAgree, readSized, readOf}
+use Rattle.room.specs.Room.{wholeRoom, hasPlace, inArea, lies, filled, keptIn, bytesAt, bytesIn, front}
+use Rattle.place.specs.Fate.{startsMessage, beginsReply, beginsPrimary, sameKind, continuesOf, lacksData, tooLong, fateOf}
+use Rattle.place.specs.Incoming.{begins, openTick, continuesHere, goesOn, incomingOffered}
+use Rattle.place.specs.Own.{ended, acknowledged, awaitTick, replyTick, awaits, continuesReply, verdictOf, replied, ownOffered}
+use Rattle.place.specs.Range.{timerInRange, lengthInRange, openInRange}
+use Rattle.table.specs.Find.{firstFrom, firstOf}
+use Rattle.table.specs.Incoming.{freeIncoming, messageFor, alike, openAlike}
+use Rattle.table.specs.Number.{numberOf, heldNumber, following, among, firstAfter, nextNumber}
+use Rattle.table.specs.Own.{freeOwn, replyFor}
+use Rattle.exchange.specs.Exchange.{gotVerdict, latestAfter, putOwn, putIncoming, withSending, savedNow}
+use Rattle.exchange.specs.Judge.{thrown, isMisrouted, sameBytes, isSaved, isDuplicate, replyBlock, messageBlock, beginsAt, takesPlace, primaryBlock, orPrimary, noReplyBlock, newBlock, judgeOf}
+use Rattle.exchange.specs.Range.{ownsInRange, incomingsInRange, messageInRange, exchangeInRange}
+use Rattle.exchange.specs.Reading.{ownReading, wanted, incomingReading}
+use Rattle.exchange.specs.Request.{refusedBy, refused, badPrimary, badFunction, dataLong, notReady, claimedAt, openFree, openOf, replyAccepted, replyReady, replyOf, releaseOwn, releaseIncoming}
+use Rattle.exchange.specs.Send.{endedOwn, endedReply}
+use Rattle.exchange.specs.Tick.{wasDropped, tickOf, ownsTimed, incomingsTimed, isStill}
+use Rattle.link.specs.Call.{releaseOwnCall, releaseIncomingCall}
+use Rattle.link.specs.Run.{acknowledged as acknowledged-link}
+use Rattle.link.specs.Setup.{settledOf, settingsInRange}
+use Rattle.link.specs.State.{linkInRange, outputShort as outputShort-link, roomFits, gateOf}
+use Rattle.script.specs.Command.{startBy, openBy, replyBy, releaseBy, bytesBy, ticksBy, verdictBy, drainedBy, commandBy, lineRead}
+use Rattle.text.specs.Field.{fieldOf, behindOf, letterOf}
+use Rattle.text.specs.Hex.{digitOf, areDigits, isData, byteOf, dataOf}
+use Rattle.text.specs.Number.{withDigit, withDigits, numberOf as numberOf-text}
+use Rattle.script.specs.Hex.{glyphOf, hexOf}
+use Rattle.script.specs.Printed.{numberText, dataFits}
+use Rattle.talk.specs.Answer.{startShown, lineDone}
+use Rattle.talk.specs.Run.{bytesRun, ticksRun}
+use Rattle.bytes.specs.Bytes.{indexAfter, indexOf, slice}
+use Rattle.talk.specs.Listing.{talked, ListingPrinted}
+
+pub listing-printed : ListingPrinted
+unfolding part splice onFront filledWith plainSum checksumOf sumWith panelInRange takenOf limitsInRange between messagePanelInRange agreedOf termsInRange ticked holding spent retryOf giveWay eotByte ackByte lengthByte lowByte bodyByte idleByte settleIdle waitInRange arrivalInRange bodyInRange headerBytes headerOf blockCount partLength hasBlock headerAt cutOf framed outputShort lengthGood refusedWrite takenWrite writeOf sumsAgree readSized readOf wholeRoom hasPlace inArea lies filled keptIn bytesAt bytesIn front startsMessage beginsReply beginsPrimary sameKind continuesOf lacksData tooLong fateOf begins openTick continuesHere goesOn incomingOffered ended acknowledged awaitTick replyTick awaits continuesReply verdictOf replied ownOffered timerInRange lengthInRange openInRange firstFrom firstOf freeIncoming messageFor alike openAlike numberOf heldNumber following among firstAfter nextNumber freeOwn replyFor gotVerdict latestAfter putOwn putIncoming withSending savedNow thrown isMisrouted sameBytes isSaved isDuplicate replyBlock messageBlock beginsAt takesPlace primaryBlock orPrimary noReplyBlock newBlock judgeOf ownsInRange incomingsInRange messageInRange exchangeInRange ownReading wanted incomingReading refusedBy refused badPrimary badFunction dataLong notReady claimedAt openFree openOf replyAccepted replyReady replyOf releaseOwn releaseIncoming endedOwn endedReply wasDropped tickOf ownsTimed incomingsTimed isStill releaseOwnCall releaseIncomingCall acknowledged-link settledOf settingsInRange linkInRange outputShort-link roomFits gateOf startBy openBy replyBy releaseBy bytesBy ticksBy verdictBy drainedBy commandBy lineRead fieldOf behindOf letterOf digitOf areDigits isData byteOf dataOf glyphOf hexOf withDigit withDigits numberOf-text numberText dataFits startShown lineDone bytesRun ticksRun indexAfter indexOf slice talked
+listing-printed = refl

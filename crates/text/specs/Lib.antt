@@ -1,0 +1,4 @@
+pub mod Field
+pub mod Number
+pub mod Hex
+pub mod Theorems
