@@ -3,3 +3,4 @@ pub mod Command
 pub mod Printed
 pub mod PrintedRules
 pub mod ReadingRules
+pub mod Table

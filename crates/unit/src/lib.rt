@@ -1,5 +1,6 @@
 // The calls of the link unit (01): the one door through which a scheduler or a tool uses the line. What each call comes to, and what is
-// proved of any calls in any order, is crate `link`; its types are what a user holds, and no other crate need be called.
+// proved of any calls in any order, is crate `link`; its types are what a user holds. No other crate need be called, but for the number
+// of a verdict (`life::verdict_number`).
 //
 // No public function has a `requires`: each checks its own inputs, and its `ensures` is one equation with a definition of `link` for
 // all that it answers and every byte it is lent.
