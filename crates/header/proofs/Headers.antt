@@ -1,5 +1,5 @@
 -- A header's fields and its ten bytes are each the other's, and what another block number leaves. Assumes nothing.
-use Prim.Native.Nat.{ℕ, _+_, _/_, _%_, _<_}
+use Prim.Native.Nat.{ℕ, _+_, _*_, _/_, _%_, _<_}
 use mathlib.Core.Path.{_≡_, refl, sym, _∙_}
 use mathlib.Core.Bool.{Bool, true, false}
 use mathlib.Core.List.{List, [], _∷_}
@@ -13,7 +13,7 @@ use Rattle.wire.specs.Bytes.{pairOf, quadOf, quartersOf}
 use Rattle.wire.proofs.Numbers.{quad-back, four-bytes-and-back}
 use Rattle.header.specs.Header.{topBit, firstTen, headerBytes, headerOf}
 use Rattle.header.specs.declared.header.Header.{Header}
-use Rattle.header.specs.Theorems.{TenBytesAndBack, TenBytesInRange, HeaderAndBack, NumberedKeeps}
+use Rattle.header.specs.Theorems.{TenBytesAndBack, TenBytesInRange, HeaderAndBack, NumberedKeeps, FirstTen, bit, HeaderLaidOut}
 
 -- a bit above seven others is read back
 bit-back : (b : Bool) (x : ℕ) → leb 128 (topBit b + x % 128) ≡ b
@@ -118,3 +118,31 @@ ten-bytes-in-range b f = record {
 
 pub numbered-keeps : NumberedKeeps
 numbered-keeps h k last = (refl, refl, record { r = refl; device = refl; w = refl; stream = refl; function = refl; system = refl })
+
+pub first-ten : FirstTen
+first-ten b e = sym (rw (
+  take-suc b 9 0 (omega arith),
+  take-suc b 8 0 (omega arith),
+  take-suc b 7 0 (omega arith),
+  take-suc b 6 0 (omega arith),
+  take-suc b 5 0 (omega arith),
+  take-suc b 4 0 (omega arith),
+  take-suc b 3 0 (omega arith),
+  take-suc b 2 0 (omega arith),
+  take-suc b 1 0 (omega arith),
+  take-suc b 0 0 (omega arith),
+))
+
+top-is : (b : Bool) → topBit b ≡ bit b * 128
+top-is true = refl
+top-is false = refl
+
+pub header-laid-out : HeaderLaidOut
+unfolding headerBytes
+header-laid-out h i = record {
+  device = omega (arith, i .device, top-is (h .r));
+  stream = omega (arith, i .stream, top-is (h .w));
+  function = refl;
+  number = omega (arith, i .number, top-is (h .e));
+  system = omega (arith, quad-back (h .system) (i .system));
+}

@@ -3,6 +3,7 @@ use Prim.Native.Nat.{ℕ, zero, suc, _+_, _-_, _/_, _%_, _≤_, _<_}
 use mathlib.Core.Path.{_≡_, refl, _∙_}
 use mathlib.Core.Bool.{true}
 use mathlib.Core.List.{List, [], _∷_, _++_, append-assoc}
+use mathlib.Core.Logic.{_⊎_, inl, inr}
 use native.Mathlib.Omega.{arith}
 use lib.Dec.{ltb}
 use lib.ListN.{length, getD}
@@ -13,7 +14,7 @@ use Rattle.text.specs.Hex.{areDigits, byteOf, dataOf, digitOf, isData}
 use Rattle.text.proofs.HexRules.{digit-low, digit-upper}
 use Rattle.script.specs.Hex.{glyphOf, hexOf}
 use Rattle.script.specs.Printed.{dataField, dataText, numberField, numberText}
-use Rattle.script.specs.PrintedRules.{DataReads, HexReads, LineEnds, OneLine}
+use Rattle.script.specs.PrintedRules.{LinesExactly, NumberPlain, DataReads, HexReads, LineEnds, OneLine}
 use Rattle.script.specs.declared.Printed.the-variants.{Answer, Verdict, Unreadable}
 use Rattle.script.proofs.Printing.{hex-length}
 
@@ -111,3 +112,14 @@ line-ends (Verdict place verdict) bytes =
     ended _ (0x56 ∷ 0x20 ∷ (numberField place 0x20 ++ numberText verdict)) (simp append-assoc)
     (more (omega arith) (more (omega arith) (plain-append (spaced (plain-number place)) (plain-number verdict))))
 line-ends Unreadable bytes = ended _ (0x3F ∷ []) refl (more (omega arith) none)
+
+pub lines-exactly : LinesExactly
+lines-exactly bytes = record { answer = λ n m. simp append-assoc; verdict = λ p v. simp append-assoc; unreadable = refl }
+
+pub number-plain : NumberPlain
+unfolding numberText
+number-plain n h =
+    chosen (λ (t : List ℕ). (length t ≡ 1) ⊎ (getD t 0 0 ≡ 0x30 → ⊥)) (ltb n 10) _ _ (λ e. inl refl)
+    (λ e. chosen (λ (t : List ℕ). (length t ≡ 1) ⊎ (getD t 0 0 ≡ 0x30 → ⊥)) (ltb n 100) _ _
+    (λ f. let low = ltb-true n 100 f in let high = ltb-false n 10 e in inr (λ z. omega arith))
+    (λ f. let high = ltb-false n 100 f in inr (λ z. omega arith)))

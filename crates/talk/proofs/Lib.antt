@@ -1,2 +1,2 @@
--- `Listing`: 01's listing.
+-- `Listing`: 01's listing, and each command at work.
 pub mod Listing

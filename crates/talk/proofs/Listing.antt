@@ -1,4 +1,4 @@
--- 01's listing: all definitions on the way from a line to what is printed for it are run. Assumes nothing.
+-- 01's listing, and each command at work: all definitions on the way from a line to what is printed for it are run. Assumes nothing.
 use mathlib.Core.Path.{refl}
 use Rattle.wire.specs.Bytes.{part}
 use Rattle.wire.specs.Lent.{splice, onFront, filledWith}
@@ -42,7 +42,14 @@ use Rattle.talk.specs.Answer.{startShown, lineDone}
 use Rattle.talk.specs.Run.{bytesRun, ticksRun}
 use Rattle.bytes.specs.Bytes.{indexAfter, indexOf, slice}
 use Rattle.talk.specs.Listing.{talked, ListingPrinted}
+use Rattle.talk.specs.Round.{RoundPrinted}
+
+runs : ListingPrinted × RoundPrinted
+unfolding part splice onFront filledWith plainSum checksumOf sumWith panelInRange takenOf limitsInRange between messagePanelInRange agreedOf termsInRange ticked holding spent retryOf giveWay eotByte ackByte lengthByte lowByte bodyByte idleByte settleIdle waitInRange arrivalInRange bodyInRange headerBytes headerOf blockCount partLength hasBlock headerAt cutOf framed outputShort lengthGood refusedWrite takenWrite writeOf sumsAgree readSized readOf wholeRoom hasPlace inArea lies filled keptIn bytesAt bytesIn front startsMessage beginsReply beginsPrimary sameKind continuesOf lacksData tooLong fateOf begins openTick continuesHere goesOn incomingOffered ended acknowledged awaitTick replyTick awaits continuesReply verdictOf replied ownOffered timerInRange lengthInRange openInRange firstFrom firstOf freeIncoming messageFor alike openAlike numberOf heldNumber following among firstAfter nextNumber freeOwn replyFor gotVerdict latestAfter putOwn putIncoming withSending savedNow thrown isMisrouted sameBytes isSaved isDuplicate replyBlock messageBlock beginsAt takesPlace primaryBlock orPrimary noReplyBlock newBlock judgeOf ownsInRange incomingsInRange messageInRange exchangeInRange ownReading wanted incomingReading refusedBy refused badPrimary badFunction dataLong notReady claimedAt openFree openOf replyAccepted replyReady replyOf releaseOwn releaseIncoming endedOwn endedReply wasDropped tickOf ownsTimed incomingsTimed isStill releaseOwnCall releaseIncomingCall acknowledged-link settledOf settingsInRange linkInRange outputShort-link roomFits gateOf startBy openBy replyBy releaseBy bytesBy ticksBy verdictBy drainedBy commandBy lineRead fieldOf behindOf letterOf digitOf areDigits isData byteOf dataOf glyphOf hexOf withDigit withDigits numberOf-text numberText dataFits startShown lineDone bytesRun ticksRun indexAfter indexOf slice talked
+runs = (refl, refl)
 
 pub listing-printed : ListingPrinted
-unfolding part splice onFront filledWith plainSum checksumOf sumWith panelInRange takenOf limitsInRange between messagePanelInRange agreedOf termsInRange ticked holding spent retryOf giveWay eotByte ackByte lengthByte lowByte bodyByte idleByte settleIdle waitInRange arrivalInRange bodyInRange headerBytes headerOf blockCount partLength hasBlock headerAt cutOf framed outputShort lengthGood refusedWrite takenWrite writeOf sumsAgree readSized readOf wholeRoom hasPlace inArea lies filled keptIn bytesAt bytesIn front startsMessage beginsReply beginsPrimary sameKind continuesOf lacksData tooLong fateOf begins openTick continuesHere goesOn incomingOffered ended acknowledged awaitTick replyTick awaits continuesReply verdictOf replied ownOffered timerInRange lengthInRange openInRange firstFrom firstOf freeIncoming messageFor alike openAlike numberOf heldNumber following among firstAfter nextNumber freeOwn replyFor gotVerdict latestAfter putOwn putIncoming withSending savedNow thrown isMisrouted sameBytes isSaved isDuplicate replyBlock messageBlock beginsAt takesPlace primaryBlock orPrimary noReplyBlock newBlock judgeOf ownsInRange incomingsInRange messageInRange exchangeInRange ownReading wanted incomingReading refusedBy refused badPrimary badFunction dataLong notReady claimedAt openFree openOf replyAccepted replyReady replyOf releaseOwn releaseIncoming endedOwn endedReply wasDropped tickOf ownsTimed incomingsTimed isStill releaseOwnCall releaseIncomingCall acknowledged-link settledOf settingsInRange linkInRange outputShort-link roomFits gateOf startBy openBy replyBy releaseBy bytesBy ticksBy verdictBy drainedBy commandBy lineRead fieldOf behindOf letterOf digitOf areDigits isData byteOf dataOf glyphOf hexOf withDigit withDigits numberOf-text numberText dataFits startShown lineDone bytesRun ticksRun indexAfter indexOf slice talked
-listing-printed = refl
+listing-printed = runs .0
+
+pub round-printed : RoundPrinted
+round-printed = runs .1

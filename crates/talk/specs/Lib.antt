@@ -1,3 +1,4 @@
 pub mod Run
 pub mod Answer
 pub mod Listing
+pub mod Round

@@ -1,6 +1,6 @@
 -- Bytes are read exactly if a text is hex digits, or `-`. Assumes nothing.
-use Prim.Native.Nat.{ℕ, zero, suc, _+_, _-_, _%_, _≤_, _<_}
-use mathlib.Core.Path.{_≡_, refl, ap}
+use Prim.Native.Nat.{ℕ, zero, suc, _+_, _-_, _*_, _%_, _≤_, _<_}
+use mathlib.Core.Path.{_≡_, refl, ap, _∙_}
 use mathlib.Core.Bool.{true, false, false≢true}
 use mathlib.Core.List.{List, [], _∷_}
 use mathlib.Core.Logic.{_↔_, _⊎_, inl, inr, ⊎-elim}
@@ -10,9 +10,9 @@ use lib.ListN.{length, getD}
 use borrow.Author.Tests.{le-ltb, le-leb, lt-leb, ne-eqb, ltb-false, leb-true, eqb-true, eqb-false}
 use Rattle.wire.proofs.Choice.{chosen}
 use Rattle.text.specs.Hex.{digitOf, areDigits, byteOf, isData, dataOf}
-use Rattle.text.specs.Theorems.{HexDigit, HexText, DataExactly, HexTable}
+use Rattle.text.specs.Theorems.{HexDigit, HexText, DataExactly, HexTable, HexSays, TextSays, decimal, upper, lower, no-more, one-more, BytesSaid}
 
--- a digit's value, up to 9 and from A on
+-- a digit's value, up to 9, from A on and from a on
 pub digit-low : (b : ℕ) → 0x30 ≤ b → b ≤ 0x39 → digitOf b ≡ b - 0x30
 unfolding digitOf
 digit-low b h l = rw (le-ltb b 0x30 h, le-leb b 0x39 l)
@@ -21,10 +21,10 @@ pub digit-upper : (b : ℕ) → 0x41 ≤ b → b ≤ 0x46 → digitOf b ≡ b - 
 unfolding digitOf
 digit-upper b h l = rw (le-ltb b 0x30 (omega arith), lt-leb b 0x39 (omega arith), le-ltb b 0x41 h, le-leb b 0x46 l)
 
-digit-lower : (b : ℕ) → 0x61 ≤ b → b ≤ 0x66 → digitOf b ≤ 15
+pub digit-lower : (b : ℕ) → 0x61 ≤ b → b ≤ 0x66 → digitOf b ≡ b - 0x61 + 10
 unfolding digitOf
 digit-lower b h l =
-    rw (le-ltb b 0x30 (omega arith), lt-leb b 0x39 (omega arith), le-ltb b 0x41 (omega arith), lt-leb b 0x46 (omega arith), le-ltb b 0x61 h, le-leb b 0x66 l) (omega arith)
+    rw (le-ltb b 0x30 (omega arith), lt-leb b 0x39 (omega arith), le-ltb b 0x41 (omega arith), lt-leb b 0x46 (omega arith), le-ltb b 0x61 h, le-leb b 0x66 l)
 
 -- a byte with a value up to 15 is a digit
 digit-is : (b : ℕ) → digitOf b ≤ 15 → HexDigit b
@@ -40,7 +40,7 @@ digit-is b =
 is-digit : (b : ℕ) → HexDigit b → digitOf b ≤ 15
 is-digit b =
     ⊎-elim (λ d. omega (arith, digit-low b (d .0) (d .1), d .1))
-    (⊎-elim (λ d. omega (arith, digit-upper b (d .0) (d .1), d .1)) (λ d. digit-lower b (d .0) (d .1)))
+    (⊎-elim (λ d. omega (arith, digit-upper b (d .0) (d .1), d .1)) (λ d. omega (arith, digit-lower b (d .0) (d .1), d .1)))
 
 abbrev HexDigits : List ℕ → Type 0
 HexDigits text = (i : ℕ) → i < length text → HexDigit (getD text i 0)
@@ -94,3 +94,22 @@ data-exactly text = (data-is text, ⊎-elim (no-data text) (is-data text))
 pub hex-table : HexTable
 unfolding dataOf byteOf digitOf
 hex-table = record { upper = refl; lower = refl }
+
+-- a digit that says a value has it
+value-of : (x a : ℕ) → HexSays x a → (digitOf x ≡ a) × (a < 16)
+value-of _ _ (decimal d h) = (digit-low (0x30 + d) (omega arith) (omega arith) ∙ omega arith, omega arith)
+value-of _ _ (upper d h) = (digit-upper (0x41 + d) (omega arith) (omega arith) ∙ omega arith, omega arith)
+value-of _ _ (lower d h) = (digit-lower (0x61 + d) (omega arith) (omega arith) ∙ omega arith, omega arith)
+
+byte-of : (x y a b : ℕ) → HexSays x a → HexSays y b → byteOf x y ≡ a * 16 + b
+unfolding byteOf
+byte-of x y a b p q = let v = value-of x a p in let w = value-of y b q in rw (v .0, w .0) (omega (arith, v .1, w .1))
+
+bytes-of : (text bs : List ℕ) → TextSays text bs → dataOf text ≡ bs
+unfolding dataOf
+bytes-of _ _ no-more = refl
+bytes-of _ _ (one-more x y a b text bs p q r) = rw (byte-of x y a b p q, bytes-of text bs r)
+
+pub bytes-said : BytesSaid
+unfolding dataOf
+bytes-said = record { said = bytes-of; none = refl }

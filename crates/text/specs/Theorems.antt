@@ -68,3 +68,19 @@ DataExactly = (text : List ℕ) → (isData text ≡ true) ↔ ((text ≡ 0x2D �
 pub record HexTable : Type 0 where
   pub upper : dataOf (0x30 ∷ 0x31 ∷ 0x32 ∷ 0x33 ∷ 0x34 ∷ 0x35 ∷ 0x36 ∷ 0x37 ∷ 0x38 ∷ 0x39 ∷ 0x41 ∷ 0x42 ∷ 0x43 ∷ 0x44 ∷ 0x45 ∷ 0x46 ∷ []) ≡ 0x01 ∷ 0x23 ∷ 0x45 ∷ 0x67 ∷ 0x89 ∷ 0xAB ∷ 0xCD ∷ 0xEF ∷ []
   pub lower : dataOf (0x61 ∷ 0x62 ∷ 0x63 ∷ 0x64 ∷ 0x65 ∷ 0x66 ∷ []) ≡ 0xAB ∷ 0xCD ∷ 0xEF ∷ []
+
+-- the value of a hex digit of either case
+pub data HexSays : ℕ → ℕ → Type 0 where
+  decimal : (d : ℕ) → d < 10 → HexSays (0x30 + d) d
+  upper : (d : ℕ) → d < 6 → HexSays (0x41 + d) (10 + d)
+  lower : (d : ℕ) → d < 6 → HexSays (0x61 + d) (10 + d)
+
+-- a text that says bytes, two digits for each, the higher first
+pub data TextSays : List ℕ → List ℕ → Type 0 where
+  no-more : TextSays [] []
+  one-more : (x y a b : ℕ) (text bs : List ℕ) → HexSays x a → HexSays y b → TextSays text bs → TextSays (x ∷ y ∷ text) ((a * 16 + b) ∷ bs)
+
+-- the bytes that are read are those that the text says; `-` says none
+pub record BytesSaid : Type 0 where
+  pub said : (text bs : List ℕ) → TextSays text bs → dataOf text ≡ bs
+  pub none : dataOf (0x2D ∷ []) ≡ []

@@ -5,7 +5,7 @@ use mathlib.Core.List.{[], _∷_}
 use native.Mathlib.Nat.{div-div-eq-div-mul}
 use native.Mathlib.Omega.{arith}
 use Rattle.wire.specs.Bytes.{pairOf, quadOf}
-use Rattle.wire.specs.Theorems.{NumberAndBack, TwoBytesAndBack, LongAndBack, FourBytesAndBack, FourEndInTwo}
+use Rattle.wire.specs.Theorems.{HighFirst, NumberAndBack, TwoBytesAndBack, LongAndBack, FourBytesAndBack, FourEndInTwo}
 
 pub number-and-back : NumberAndBack
 number-and-back x high low e =
@@ -48,3 +48,6 @@ four-end-in-two x h = λ k. upper .0 k ∷ upper .1 k ∷ upper .2 k ∷ (x % 25
   where
     upper : (x / 16777216 % 256 ≡ 0) × (x / 65536 % 256 ≡ 0) × (x / 256 % 256 ≡ x / 256)
     upper = omega arith
+
+pub high-first : HighFirst
+high-first a b c d = (omega arith, omega arith)

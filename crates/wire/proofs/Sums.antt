@@ -8,7 +8,7 @@ use lib.ListN.{length, take, getD}
 use lib.Seq.{take-suc}
 use Rattle.wire.specs.Bytes.{Bytes}
 use Rattle.wire.specs.Sum.{plainSum, checksumOf, sumWith}
-use Rattle.wire.specs.Theorems.{SumNeverWraps, SumByByte}
+use Rattle.wire.specs.Theorems.{SumAdds, SumNeverWraps, SumByByte}
 
 pub sum-append : (a b : List ℕ) → plainSum (a ++ b) ≡ plainSum a + plainSum b
 unfolding plainSum
@@ -38,3 +38,7 @@ sum-never-wraps bs b h = let most = sum-most bs b in (omega arith, omega arith)
 pub sum-by-byte : SumByByte
 unfolding plainSum checksumOf sumWith
 sum-by-byte = (refl, λ bs b. omega (arith, sum-append bs (b ∷ [])))
+
+pub sum-adds : SumAdds
+unfolding sumWith
+sum-adds s b = refl

@@ -1,5 +1,5 @@
 -- What is proved of the definitions of this crate, over all inputs. Each proof is in `proofs/`.
-use Prim.Native.Nat.{ℕ, _+_, _≤_, _<_}
+use Prim.Native.Nat.{ℕ, _+_, _*_, _%_, _≤_, _<_}
 use mathlib.Core.Path.{_≡_}
 use mathlib.Core.List.{List, [], _∷_, _++_}
 use lib.ListN.{length, take, drop}
@@ -25,6 +25,10 @@ FourBytesAndBack = (a b c d : ℕ) → a < 256 → b < 256 → c < 256 → d < 2
 abbrev pub FourEndInTwo : Type 0
 FourEndInTwo = (x : ℕ) → x < 65536 → quartersOf x ≡ 0 ∷ 0 ∷ halvesOf x
 
+-- "high byte first": what two bytes, and four, are as a number
+abbrev pub HighFirst : Type 0
+HighFirst = (a b c d : ℕ) → (pairOf a b ≡ a * 256 + b) × (quadOf a b c d ≡ a * 16777216 + b * 65536 + c * 256 + d)
+
 -- 01: "The sum is at most 64,770 and never wraps."
 abbrev pub SumNeverWraps : Type 0
 SumNeverWraps = (bs : List ℕ) → Bytes bs → length bs ≤ 254 → (checksumOf bs ≡ plainSum bs) × (checksumOf bs ≤ 64770)
@@ -32,6 +36,10 @@ SumNeverWraps = (bs : List ℕ) → Bytes bs → length bs ≤ 254 → (checksum
 -- the sum can be kept byte by byte, from 0
 abbrev pub SumByByte : Type 0
 SumByByte = (checksumOf [] ≡ 0) × ((bs : List ℕ) (b : ℕ) → checksumOf (bs ++ (b ∷ [])) ≡ sumWith (checksumOf bs) b)
+
+-- "the 16-bit sum of those N bytes": each byte is added as it is
+abbrev pub SumAdds : Type 0
+SumAdds = (s b : ℕ) → sumWith s b ≡ (s + b) % 65536
 
 -- bytes to be put from index i on: where they have room they stand there then, and all before and behind them is as it was;
 -- where they have none, every byte is as it was
