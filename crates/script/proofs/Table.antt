@@ -9,13 +9,15 @@ use Rattle.script.specs.Command.{startBy, openBy, replyBy, releaseBy, by
 use Rattle.script.specs.Hex.{glyphOf, hexOf}
 use Rattle.script.specs.Table.{CommandTable, LimitTable, DigitTable}
 
-pub command-table : CommandTable
+tables : CommandTable × LimitTable
 unfolding indexAfter indexOf slice splice onFront fieldOf behindOf letterOf numberOf withDigits withDigit isData dataOf areDigits digitOf byteOf startBy openBy replyBy releaseBy bytesBy ticksBy verdictBy drainedBy commandBy lineRead
-command-table = record { host = refl; equipment = refl; opens = refl; opens-unanswered = refl; replies = refl; frees-own = refl; frees-incoming = refl; says-bytes = refl; says-ticks = refl; drains = refl; shows = refl }
+tables = (record { host = refl; equipment = refl; opens = refl; opens-unanswered = refl; replies = refl; frees-own = refl; frees-incoming = refl; says-bytes = refl; says-ticks = refl; drains = refl; shows = refl }, record { w-above-1 = refl; source-above-65535 = refl; stream-above-255 = refl; function-above-255 = refl; place-above-255 = refl; reply-above-255 = refl; freed-above-255 = refl; shown-above-255 = refl; count-above-100000 = refl; setting-above-65535 = refl; last-above-65535 = refl; no-such-letter = refl; small-letter = refl; neither-own-nor-incoming = refl; more-than-drained = refl; of-1024-bytes = refl; of-1025-bytes = refl })
+
+pub command-table : CommandTable
+command-table = tables .0
 
 pub limit-table : LimitTable
-unfolding indexAfter indexOf slice splice onFront fieldOf behindOf letterOf numberOf withDigits withDigit isData dataOf areDigits digitOf byteOf startBy openBy replyBy releaseBy bytesBy ticksBy verdictBy drainedBy commandBy lineRead
-limit-table = record { w-above-1 = refl; source-above-65535 = refl; stream-above-255 = refl; function-above-255 = refl; place-above-255 = refl; reply-above-255 = refl; freed-above-255 = refl; shown-above-255 = refl; count-above-100000 = refl; setting-above-65535 = refl; last-above-65535 = refl; no-such-letter = refl; small-letter = refl; neither-own-nor-incoming = refl; more-than-drained = refl; of-1024-bytes = refl; of-1025-bytes = refl }
+limit-table = tables .1
 
 pub digit-table : DigitTable
 unfolding glyphOf hexOf
