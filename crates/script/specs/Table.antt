@@ -71,9 +71,9 @@ pub record LimitTable : Type 0 where
   pub neither-own-nor-incoming : lineRead (0x4C ∷ 0x20 ∷ 0x58 ∷ 0x20 ∷ 0x31 ∷ []) lent ≡ unread lent
   -- `D 1`
   pub more-than-drained : lineRead (0x44 ∷ 0x20 ∷ 0x31 ∷ []) lent ≡ unread lent
-  -- `B`, a space and 1,022 zeros; one more
-  pub of-1024-bytes : lineRead (0x42 ∷ 0x20 ∷ replicate 1022 0x30) lent .command ≡ Bytes 511
-  pub of-1025-bytes : lineRead (0x42 ∷ 0x20 ∷ replicate 1023 0x30) lent ≡ unread lent
+  -- `T`, a space and 1,022 zeros; one zero more, which is a number as well
+  pub of-1024-bytes : lineRead (0x54 ∷ 0x20 ∷ replicate 1022 0x30) lent ≡ told (Ticks 0) lent
+  pub of-1025-bytes : lineRead (0x54 ∷ 0x20 ∷ replicate 1023 0x30) lent ≡ unread lent
 
 -- hex in upper case: the sixteen digits
 abbrev pub DigitTable : Type 0
