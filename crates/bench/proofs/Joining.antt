@@ -12,7 +12,7 @@ use Rattle.link.specs.Run.{Left, left}
 use Rattle.link.specs.History.{Call, called}
 use Rattle.link.specs.declared.Answer.{Answer}
 use Rattle.link.specs.declared.Link.{Link}
-use Rattle.link.proofs.Writing.{writes-only}
+use Rattle.link.proofs.refusals.Writes.{writes-only}
 use Rattle.talk.specs.Run.{Running, running, joinedRan, joins, byteRun, tickRun, bytesRun, ticksRun}
 use Rattle.talk.specs.declared.Ran.{Ran}
 use Rattle.talk.specs.Answer.{done, doneBy, shownRan}

@@ -4,7 +4,7 @@ use mathlib.Core.Path.{sym, _∙_}
 use Rattle.wire.specs.Determined.{Determined}
 use denote.Ref.{now}
 use Rattle.exchange.specs.Judge.{judging}
-use Rattle.exchange.specs.Request.{asking}
+use Rattle.exchange.specs.Request.{requesting}
 use Rattle.clerk.proofs.state.fresh.Reads as fresh-reads
 use Rattle.clerk.proofs.state.fresh.Kinds as fresh-kinds
 use Rattle.clerk.proofs.judging.judge.Reads as judge-reads
@@ -31,6 +31,8 @@ use Rattle.clerk.proofs.reading.incoming_reading.Reads as incoming-read
 use Rattle.clerk.proofs.reading.incoming_reading.Kinds as incoming-reading-kinds
 use Rattle.clerk.proofs.range.in_range.Reads as in-range-reads
 use Rattle.clerk.proofs.range.in_range.Kinds as in-range-kinds
+use Rattle.clerk.proofs.request.is_message.Reads as is-message-reads
+use Rattle.clerk.proofs.request.is_message.Kinds as is-message-kinds
 use Rattle.clerk.proofs.request.is_sending.Reads as is-sending-reads
 use Rattle.clerk.proofs.request.is_sending.Kinds as is-sending-kinds
 use Rattle.clerk.proofs.time.is_still.Reads as is-still-reads
@@ -60,10 +62,10 @@ failed-determined κs a = (tt, λ x y s t p q. p ∙ sym q)
 pub outgoing-determined : Determined 0 outgoing-kinds.ps outgoing-kinds.r outgoing-reads.Asked outgoing-reads.Post (λ κs r s. r)
 outgoing-determined κs a = (tt, λ x y s t p q. p ∙ sym q)
 
-pub open-determined : Determined 2 open-kinds.ps open-kinds.r open-reads.Asked open-reads.Post (λ κs r s. asking r (now (s .1 .1 .1 .1 .0)))
+pub open-determined : Determined 2 open-kinds.ps open-kinds.r open-reads.Asked open-reads.Post (λ κs r s. requesting r (now (s .1 .1 .1 .1 .0)))
 open-determined κs a = (tt, λ x y s t p q. p ∙ sym q)
 
-pub reply-determined : Determined 2 reply-kinds.ps reply-kinds.r reply-reads.Asked reply-reads.Post (λ κs r s. asking r (now (s .1 .1 .1 .1 .0)))
+pub reply-determined : Determined 2 reply-kinds.ps reply-kinds.r reply-reads.Asked reply-reads.Post (λ κs r s. requesting r (now (s .1 .1 .1 .1 .0)))
 reply-determined κs a = (tt, λ x y s t p q. p ∙ sym q)
 
 pub release-own-determined : Determined 0 release-own-kinds.ps release-own-kinds.r release-own-reads.Asked release-own-reads.Post (λ κs r s. r)
@@ -86,6 +88,9 @@ note-number-determined κs a = (tt, λ x y s t p q. p ∙ sym q)
 
 pub refusal-number-determined : Determined 0 refusal-number-kinds.ps refusal-number-kinds.r refusal-number-reads.Asked refusal-number-reads.Post (λ κs r s. r)
 refusal-number-determined κs a = (tt, λ x y s t p q. p ∙ sym q)
+
+pub is-message-determined : Determined 0 is-message-kinds.ps is-message-kinds.r is-message-reads.Asked is-message-reads.Post (λ κs r s. r)
+is-message-determined κs a = (tt, λ x y s t p q. p ∙ sym q)
 
 pub is-sending-determined : Determined 0 is-sending-kinds.ps is-sending-kinds.r is-sending-reads.Asked is-sending-reads.Post (λ κs r s. r)
 is-sending-determined κs a = (tt, λ x y s t p q. p ∙ sym q)

@@ -8,8 +8,8 @@ use crate::note::note_of;
 use crate::state::got_verdict;
 use crate::state::incoming_place;
 use crate::state::own_place;
-use crate::state::with_incoming;
-use crate::state::with_own;
+use crate::state::put_incoming;
+use crate::state::put_own;
 use crate::state::with_saved;
 use exchange::Exchange;
 use exchange::Judged;
@@ -134,7 +134,7 @@ fn reply_block(
     let after = own::offered(before, header, data.len());
     keep_by(fate, room, Message::Reply(place), reply.length, data);
     Judged {
-        exchange: with_own(exchange, place, after),
+        exchange: put_own(exchange, place, after),
         note: note_of(fate),
         flags: verdict_flag(place, got_verdict(before, after)),
     }
@@ -156,7 +156,7 @@ fn message_block(
     let after = incoming::offered(before, header, data.len());
     keep_by(fate, room, Message::Incoming(place), have, data);
     Judged {
-        exchange: with_incoming(exchange, place, after),
+        exchange: put_incoming(exchange, place, after),
         note: note_of(fate),
         flags: incoming_flags(place, is_last(fate), is_spoilt(fate)),
     }
@@ -177,7 +177,7 @@ fn begins_at(
     let after = incoming::begun(incoming_place(exchange, place), header, data.len());
     room::keep(room, Message::Incoming(place), 0, data);
     Judged {
-        exchange: with_incoming(exchange, place, after),
+        exchange: put_incoming(exchange, place, after),
         note: Note::Kept,
         flags: incoming_flags(place, last, gone),
     }

@@ -19,6 +19,7 @@ pub use note::note_number;
 pub use range::in_range;
 pub use reading::incoming_reading;
 pub use reading::own_reading;
+pub use request::is_message;
 pub use request::is_sending;
 pub use request::open;
 pub use request::refusal_number;

@@ -7,6 +7,7 @@ use place::Incoming;
 use place::Own;
 use seek::incoming_at;
 use seek::own_at;
+use wire::MESSAGE_LIMIT;
 
 fn owns_in_range(own: [Own; 4]) -> bool
     ensures { λ r. ⌜ r ≡ ownsInRange own ⌝ }
@@ -39,7 +40,7 @@ fn message_in_range(place: usize, length: u16) -> bool
     ensures { λ r. ⌜ r ≡ Rattle.exchange.specs.Range.messageInRange place length ⌝ }
 {
     if place <= 3 {
-        return length <= 4096;
+        return length as usize <= MESSAGE_LIMIT;
     }
     false
 }

@@ -31,11 +31,7 @@ fn reply_stage(place: Incoming) -> ReplyStage
     let stage = place.stage;
     match stage {
         IncomingStage::Free => ReplyStage::NotOwed,
-        IncomingStage::Open {
-            timer: _,
-            next: _,
-            length: _,
-        } => ReplyStage::NotOwed,
+        IncomingStage::Open(_) => ReplyStage::NotOwed,
         IncomingStage::Complete { length: _ } => wanted(incoming::primary(place)),
         IncomingStage::Replying { length: _ } => ReplyStage::OnItsWay,
         IncomingStage::Replied { length: _, end } => match end {

@@ -2,11 +2,12 @@
 ghost use mathlib.Core.Path.{_≡_};
 ghost use Prim.Native.Nat.{_≤_};
 ghost use lib.ListN.{length};
-ghost use Rattle.exchange.specs.Request.{asking, badFunction, badPrimary, claimedAt, dataLong, isSending, notReady, openFree, openOf, primaryHeader, refusalNumber, refusedBy, releaseIncoming, releaseOwn, replyAccepted, replyOf, replyReady};
+ghost use Rattle.wire.specs.Message.{messageLimit};
+ghost use Rattle.exchange.specs.Request.{requesting, badFunction, badPrimary, claimedAt, dataLong, isSending, notReady, openFree, openOf, primaryHeader, refusalNumber, refusedBy, releaseIncoming, releaseOwn, replyAccepted, replyOf, replyReady, sendingBy};
 use crate::state::incoming_place;
 use crate::state::own_place;
-use crate::state::with_incoming;
-use crate::state::with_own;
+use crate::state::put_incoming;
+use crate::state::put_own;
 use crate::state::with_sending;
 use exchange::Asked;
 use exchange::Exchange;
@@ -22,9 +23,10 @@ use place::Incoming;
 use room::Message;
 use seek::free_own;
 use seek::next_number;
-use seek::put_own;
+use seek::own_put;
 use settings::Terms;
 use table::Found;
+use wire::MESSAGE_LIMIT;
 
 pub fn refusal_number(refusal: Refusal) -> u8
     ensures { λ r. ⌜ r ≡ refusalNumber refusal ⌝ }
@@ -44,7 +46,7 @@ pub fn refusal_number(refusal: Refusal) -> u8
 fn data_long(size: usize) -> bool
     ensures { λ r. ⌜ r ≡ dataLong size ⌝ }
 {
-    4096 < size
+    MESSAGE_LIMIT < size
 }
 
 // Refusal 5: "stream above 127; function even in a primary".
@@ -93,10 +95,10 @@ fn bad_function(primary: Header, function: u8) -> bool
     function as u16 != primary.function as u16 + 1
 }
 
-pub fn is_sending(exchange: Exchange) -> bool
-    ensures { λ r. ⌜ r ≡ isSending exchange ⌝ }
+// Whether there is a message that is being sent or held.
+pub fn is_message(sending: Sending) -> bool
+    ensures { λ r. ⌜ r ≡ sendingBy sending ⌝ }
 {
-    let sending = exchange.sending;
     match sending {
         Sending::Nothing => false,
         Sending::Primary {
@@ -109,6 +111,13 @@ pub fn is_sending(exchange: Exchange) -> bool
             length: _,
         } => true,
     }
+}
+
+pub fn is_sending(exchange: Exchange) -> bool
+    ensures { λ r. ⌜ r ≡ isSending exchange ⌝ }
+{
+    let sending = exchange.sending;
+    is_message(sending)
 }
 
 fn refused(exchange: Exchange, refusal: Refusal) -> Requested
@@ -133,7 +142,7 @@ fn claimed_at(
     let before = exchange.own;
     let number = next_number(before, exchange.numbers.last, exchange.numbers.latest);
     let header = primary_header(primary, terms, number).bytes();
-    let own = put_own(
+    let own = own_put(
         before,
         place,
         own::claimed(own_place(exchange, place), header),
@@ -162,8 +171,8 @@ fn open_free(
     data: &[u8],
     room: &mut [u8],
 ) -> Requested
-    requires { ⌜ length (now «data») ≤ 4096 ⌝ }
-    ensures { λ r. ⌜ asking r (now (room .exit)) ≡ openFree terms exchange primary (now («data» .entry)) (now (room .entry)) ⌝ }
+    requires { ⌜ length (now «data») ≤ messageLimit ⌝ }
+    ensures { λ r. ⌜ requesting r (now (room .exit)) ≡ openFree terms exchange primary (now («data» .entry)) (now (room .entry)) ⌝ }
 {
     let own = exchange.own;
     match free_own(own) {
@@ -187,7 +196,7 @@ pub fn open(
     data: &[u8],
     room: &mut [u8],
 ) -> Requested
-    ensures { λ r. ⌜ asking r (now (room .exit)) ≡ openOf terms exchange primary (now («data» .entry)) (now (room .entry)) ⌝ }
+    ensures { λ r. ⌜ requesting r (now (room .exit)) ≡ openOf terms exchange primary (now («data» .entry)) (now (room .entry)) ⌝ }
 {
     if bad_primary(primary) {
         return refused(exchange, Refusal::Message);
@@ -209,8 +218,8 @@ fn reply_accepted(
     data: &[u8],
     room: &mut [u8],
 ) -> Requested
-    requires { ⌜ length (now «data») ≤ 4096 ⌝ }
-    ensures { λ r. ⌜ asking r (now (room .exit)) ≡ replyAccepted exchange place function (now («data» .entry)) (now (room .entry)) ⌝ }
+    requires { ⌜ length (now «data») ≤ messageLimit ⌝ }
+    ensures { λ r. ⌜ requesting r (now (room .exit)) ≡ replyAccepted exchange place function (now («data» .entry)) (now (room .entry)) ⌝ }
 {
     room::keep(room, Message::Send, 0, data);
     let length = data.len() as u16;
@@ -221,7 +230,7 @@ fn reply_accepted(
         length,
     };
     Requested {
-        exchange: with_sending(with_incoming(exchange, place, after), sending),
+        exchange: with_sending(put_incoming(exchange, place, after), sending),
         asked: Asked::Taken(place),
     }
 }
@@ -234,7 +243,7 @@ fn reply_ready(
     data: &[u8],
     room: &mut [u8],
 ) -> Requested
-    ensures { λ r. ⌜ asking r (now (room .exit)) ≡ replyReady exchange place function (now («data» .entry)) (now (room .entry)) ⌝ }
+    ensures { λ r. ⌜ requesting r (now (room .exit)) ≡ replyReady exchange place function (now («data» .entry)) (now (room .entry)) ⌝ }
 {
     let primary = incoming::primary(incoming_place(exchange, place));
     if bad_function(primary, function) {
@@ -257,7 +266,7 @@ pub fn reply(
     data: &[u8],
     room: &mut [u8],
 ) -> Requested
-    ensures { λ r. ⌜ asking r (now (room .exit)) ≡ replyOf exchange place function (now («data» .entry)) (now (room .entry)) ⌝ }
+    ensures { λ r. ⌜ requesting r (now (room .exit)) ≡ replyOf exchange place function (now («data» .entry)) (now (room .entry)) ⌝ }
 {
     let incoming = incoming_place(exchange, place);
     if not_ready(incoming) { // 9 goes before 10 and 11
@@ -280,7 +289,7 @@ pub fn release_own(exchange: Exchange, place: usize) -> Requested
     let own = own_place(exchange, place);
     if own::has_verdict(own) {
         return Requested {
-            exchange: with_own(exchange, place, own::released(own)),
+            exchange: put_own(exchange, place, own::released(own)),
             asked: Asked::Taken(place),
         };
     }
@@ -296,7 +305,7 @@ pub fn release_incoming(exchange: Exchange, place: usize) -> Requested
         return refused(exchange, Refusal::Place);
     }
     Requested {
-        exchange: with_incoming(exchange, place, incoming::released(incoming)),
+        exchange: put_incoming(exchange, place, incoming::released(incoming)),
         asked: Asked::Taken(place),
     }
 }

@@ -6,13 +6,13 @@ use crate::flags::verdict_flag;
 use crate::state::got_verdict;
 use crate::state::incoming_place;
 use crate::state::own_place;
-use crate::state::with_incoming;
-use crate::state::with_own;
+use crate::state::put_incoming;
+use crate::state::put_own;
 use crate::state::with_sending;
+use exchange::Changed;
 use exchange::Exchange;
 use exchange::Outgoing;
 use exchange::Sending;
-use exchange::Told;
 use header::Header;
 use life::incoming;
 use life::own;
@@ -58,31 +58,31 @@ pub fn outgoing(exchange: Exchange) -> Outgoing
 }
 
 // The sending of a primary is over.
-fn ended_own(exchange: Exchange, place: usize, after: Own) -> Told
+fn ended_own(exchange: Exchange, place: usize, after: Own) -> Changed
     ensures { λ r. ⌜ r ≡ endedOwn exchange place after ⌝ }
 {
     let before = own_place(exchange, place);
     let flags = verdict_flag(place, got_verdict(before, after));
-    let exchange = with_sending(with_own(exchange, place, after), Sending::Nothing);
-    Told { exchange, flags }
+    let exchange = with_sending(put_own(exchange, place, after), Sending::Nothing);
+    Changed { exchange, flags }
 }
 
 // The sending of a reply is over: "a reply of ours that ends raises" no flag.
-fn ended_reply(exchange: Exchange, place: usize, after: Incoming) -> Told
+fn ended_reply(exchange: Exchange, place: usize, after: Incoming) -> Changed
     ensures { λ r. ⌜ r ≡ endedReply exchange place after ⌝ }
 {
     let flags = no_flags();
-    let exchange = with_sending(with_incoming(exchange, place, after), Sending::Nothing);
-    Told { exchange, flags }
+    let exchange = with_sending(put_incoming(exchange, place, after), Sending::Nothing);
+    Changed { exchange, flags }
 }
 
 // The last block of the message being sent was acknowledged.
-pub fn sent(exchange: Exchange) -> Told
+pub fn sent(exchange: Exchange) -> Changed
     ensures { λ r. ⌜ r ≡ sentOf exchange ⌝ }
 {
     let sending = exchange.sending;
     match sending {
-        Sending::Nothing => Told {
+        Sending::Nothing => Changed {
             exchange,
             flags: no_flags(),
         },
@@ -102,12 +102,12 @@ pub fn sent(exchange: Exchange) -> Told
 }
 
 // A block of the message being sent failed.
-pub fn failed(exchange: Exchange) -> Told
+pub fn failed(exchange: Exchange) -> Changed
     ensures { λ r. ⌜ r ≡ failedOf exchange ⌝ }
 {
     let sending = exchange.sending;
     match sending {
-        Sending::Nothing => Told {
+        Sending::Nothing => Changed {
             exchange,
             flags: no_flags(),
         },

@@ -10,10 +10,10 @@ use life::own;
 use place::Incoming;
 use place::Own;
 use seek::incoming_at;
+use seek::incoming_put;
 use seek::number_of;
 use seek::own_at;
-use seek::put_incoming;
-use seek::put_own;
+use seek::own_put;
 
 // Whether a place got its verdict now.
 pub(crate) fn got_verdict(before: Own, after: Own) -> bool
@@ -59,11 +59,11 @@ pub fn fresh(last: u16) -> Exchange
 }
 
 // An own place is put anew.
-pub(crate) fn with_own(exchange: Exchange, place: usize, after: Own) -> Exchange
+pub(crate) fn put_own(exchange: Exchange, place: usize, after: Own) -> Exchange
     ensures { λ r. ⌜ r ≡ putOwn exchange place after ⌝ }
 {
     let before = exchange.own;
-    let own = put_own(before, place, after);
+    let own = own_put(before, place, after);
     let incoming = exchange.incoming;
     let saved = exchange.saved;
     let sending = exchange.sending;
@@ -81,12 +81,12 @@ pub(crate) fn with_own(exchange: Exchange, place: usize, after: Own) -> Exchange
 }
 
 // An incoming place is put anew.
-pub(crate) fn with_incoming(exchange: Exchange, place: usize, after: Incoming) -> Exchange
+pub(crate) fn put_incoming(exchange: Exchange, place: usize, after: Incoming) -> Exchange
     ensures { λ r. ⌜ r ≡ putIncoming exchange place after ⌝ }
 {
     let own = exchange.own;
     let before = exchange.incoming;
-    let incoming = put_incoming(before, place, after);
+    let incoming = incoming_put(before, place, after);
     let saved = exchange.saved;
     let sending = exchange.sending;
     let numbers = exchange.numbers;

@@ -3,10 +3,10 @@ ghost use mathlib.Core.Path.{_≡_};
 ghost use Rattle.exchange.specs.Tick.{gotMarks, goneMarks, incomingsTimed, isStill, latestOver, ownTimed, ownsTimed, tickOf, wasDropped};
 use crate::state::got_verdict;
 use crate::state::latest_after;
+use exchange::Changed;
 use exchange::Exchange;
 use exchange::Flags;
 use exchange::Numbers;
-use exchange::Told;
 use life::incoming;
 use place::Incoming;
 use place::Own;
@@ -68,11 +68,7 @@ fn is_timed(place: Own) -> bool
         OwnStage::Free => false,
         OwnStage::Sending => false,
         OwnStage::Awaiting { timer: _ } => true,
-        OwnStage::Replying {
-            timer: _,
-            next: _,
-            reply: _,
-        } => true,
+        OwnStage::Replying(_) => true,
         OwnStage::Done {
             verdict: _,
             reply: _,
@@ -123,7 +119,7 @@ pub fn is_still(exchange: Exchange) -> bool
 }
 
 // 0.1 s have passed.
-pub fn tick(exchange: Exchange, terms: Terms) -> Told
+pub fn tick(exchange: Exchange, terms: Terms) -> Changed
     ensures { λ r. ⌜ r ≡ tickOf terms exchange ⌝ }
 {
     let own_before = exchange.own;
@@ -151,5 +147,5 @@ pub fn tick(exchange: Exchange, terms: Terms) -> Told
         completed,
         dropped,
     };
-    Told { exchange, flags }
+    Changed { exchange, flags }
 }

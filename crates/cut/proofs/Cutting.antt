@@ -20,7 +20,7 @@ use Rattle.header.proofs.Headers.{numbered-keeps}
 use Rattle.cut.proofs.Counts.{count-is-fewest}
 
 -- there is a block k of n bytes
-abbrev Within : ℕ → ℕ → Type 0
+abbrev pub Within : ℕ → ℕ → Type 0
 Within n k = (1 ≤ k) × (k ≤ blockCount n) × (k ≤ 32767)
 
 has-block : (n k : ℕ) → hasBlock n k ≡ true ↔ Within n k
@@ -37,7 +37,7 @@ unfolding cutOf
 by-cut h n k P =
     judged (hasBlock n k) (has-block n k) (λ t. P (cond t (Block (headerAt h n k) (partStart k) (partLength n k)) NoBlock))
 
-cut-is : (h : Header) (n k : ℕ) → Within n k → cutOf h n k ≡ Block (headerAt h n k) (partStart k) (partLength n k)
+pub cut-is : (h : Header) (n k : ℕ) → Within n k → cutOf h n k ≡ Block (headerAt h n k) (partStart k) (partLength n k)
 cut-is h n k w =
     by-cut h n k (λ c. c ≡ Block (headerAt h n k) (partStart k) (partLength n k)) (λ v. refl) (λ none. absurd (none w))
 

@@ -15,6 +15,10 @@ blockData = 244
 unfoldable pub blockCount : ℕ → ℕ
 blockCount n = cond (eqb n 0) 1 ((n - 1) / blockData + 1)
 
+-- the most blocks of a message: "4,096 data bytes make .. 17 blocks" (MostBlocks)
+abbrev pub mostBlocks : ℕ
+mostBlocks = 17
+
 -- where block k's part of the data starts: behind the filled blocks before it
 abbrev pub partStart : ℕ → ℕ
 partStart k = (k - 1) * blockData

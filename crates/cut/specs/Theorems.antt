@@ -6,7 +6,8 @@ use mathlib.Core.List.{List, [], _++_}
 use mathlib.Core.Logic.{_↔_}
 use lib.ListN.{length}
 use Rattle.wire.specs.Bytes.{part}
-use Rattle.cut.specs.Blocks.{blockCount, cutOf}
+use Rattle.wire.specs.Message.{messageLimit}
+use Rattle.cut.specs.Blocks.{blockCount, mostBlocks, cutOf}
 use Rattle.header.specs.Theorems.{SameElse}
 use Rattle.header.specs.declared.header.Header.{Header}
 use Rattle.cut.specs.declared.Cut.{Cut}
@@ -20,6 +21,10 @@ pub record FewestBlocks (n c : ℕ) : Type 0 where
 
 abbrev pub CountIsFewest : Type 0
 CountIsFewest = (n : ℕ) → FewestBlocks n (blockCount n)
+
+-- "4,096 data bytes make .. 17 blocks": the longest message does, and none within the limit makes more
+abbrev pub MostBlocks : Type 0
+MostBlocks = (blockCount messageLimit ≡ mostBlocks) × ((n : ℕ) → n ≤ messageLimit → blockCount n ≤ mostBlocks)
 
 -- Cutting a message of n bytes with header h gives blocks 1 to `blockCount n`, in so far as they have a number of E4
 -- (up to 32,767), and no others.

@@ -9,6 +9,9 @@ use header::Header;
 // How many data bytes a filled block carries: 254 less the ten of the header.
 const BLOCK_DATA: usize = 244;
 
+// The most blocks of a message: "4,096 data bytes make .. 17 blocks".
+pub const MOST_BLOCKS: u16 = 17;
+
 // The highest block number (E4 6.7).
 const LAST_NUMBER: usize = 32767;
 

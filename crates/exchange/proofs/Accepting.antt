@@ -2,85 +2,57 @@
 use Prim.Native.Nat.{ℕ, _<_}
 use mathlib.Core.Path.{_≡_, refl, sym, ap, subst, _∙_}
 use mathlib.Core.Bool.{Bool, true, false, not, _&&_, false≢true, true≢false}
-use mathlib.Core.List.{List}
+use mathlib.Core.List.{List, []}
 use mathlib.Core.Logic.{_≢_}
 use native.Mathlib.Omega.{arith}
 use lib.Dec.{ltb}
 use lib.ListN.{length, getD, set, List·getD-eq-default}
 use lib.Seq.{getD-set-same, getD-set-other}
 use borrow.Author.Tests.{ltb-true, ltb-false}
-use Rattle.wire.proofs.Choice.{either, chosen}
+use Rattle.wire.proofs.Choice.{either}
 use Rattle.header.specs.Header.{headerBytes}
 use Rattle.header.proofs.Headers.{header-and-back}
 use Rattle.header.specs.declared.header.Header.{Header}
 use Rattle.settings.specs.declared.terms.Terms.{Terms}
+use Rattle.room.specs.declared.Message.the-variants as message
+use Rattle.room.proofs.Keeping.{keeps-only}
 use Rattle.place.specs.Own.{primaryOf as ownPrimary, freshOwn, standingAt, givenBy, ownClaimed, releasedAt as ownReleasedAt, ownReleased, ownHasVerdict}
-use Rattle.place.specs.Incoming.{primaryOf as incomingPrimary, freshIncoming, completeAt, repliedAt, incomingIsReplied, incomingAnswered, releasedAt as incomingReleasedAt, incomingReleased}
+use Rattle.place.specs.Incoming.{primaryOf as incomingPrimary, freshIncoming, completeAt, repliedAt, incomingAnswered, releasedAt as incomingReleasedAt, incomingReleased}
 use Rattle.place.specs.declared.OwnStage.{OwnStage}
 use Rattle.place.specs.declared.OwnStage.the-variants as own
 use Rattle.place.specs.declared.Own.{Own}
 use Rattle.place.specs.declared.IncomingStage.{IncomingStage}
 use Rattle.place.specs.declared.IncomingStage.the-variants as incoming
 use Rattle.place.specs.declared.Incoming.{Incoming}
-use Rattle.table.specs.Own.{freeOwn}
-use Rattle.table.specs.declared.Found.{Found}
-use Rattle.table.specs.declared.Found.the-variants.{At, Nowhere}
+use Rattle.table.specs.declared.Found.the-variants.{At}
 use Rattle.exchange.specs.Exchange.{ownPlace, incomingPlace, gotVerdict, latestAfter, putOwn, putIncoming, withSending}
 use Rattle.exchange.specs.Send.{replyTo}
-use Rattle.exchange.specs.Request.{Asking, refusalNumber, askedNumber, refusedBy, refused, primaryHeader, badPrimary, badFunction, dataLong, isSending, notReady, claimedAt, openBy, openFree, openOf, replyAccepted, replyReady, replyOf, releaseOwn, releaseIncoming}
+use Rattle.exchange.specs.Request.{refusalNumber, askedNumber, refusedBy, refused, primaryHeader, notReady, claimedAt, openBy, replyAccepted}
 use Rattle.exchange.specs.Rules.{Fours, LowestAt}
-use Rattle.exchange.specs.Refusals.{OwnFree, numbered, RefusedChangesNothing, numberGiven, AsAsked, Opened, AcceptedOpens, RepliesTo, Replied, AcceptedReplies, OwnReleased, IncomingReleased, AcceptedReleases}
+use Rattle.exchange.specs.Refusals.{OwnFree, numbered, RefusedChangesNothing, FillsBy, AcceptedFills, RequestSpares, numberGiven, AsAsked, Opened, AcceptedOpens, RepliesTo, Replied, AcceptedReplies, OwnReleased, IncomingReleased, AcceptedReleases}
 use Rattle.exchange.specs.declared.Exchange.{Exchange}
 use Rattle.exchange.specs.declared.Refusal.{Refusal}
 use Rattle.exchange.specs.declared.Refusal.the-variants as refusal
 use Rattle.exchange.specs.declared.Asked.{Asked}
 use Rattle.exchange.specs.declared.Asked.the-variants.{Taken, Refused}
 use Rattle.exchange.specs.declared.Primary.{Primary}
-use Rattle.exchange.specs.declared.Requested.{Requested}
 use Rattle.exchange.specs.declared.Outgoing.the-variants as outgoing
+use Rattle.exchange.proofs.Cases.{by-open, by-reply, by-free-own, by-free-incoming, by-request}
 use Rattle.exchange.proofs.Refusing.{lowest-free}
 
 -- ---- what a request can come to
 
--- the place that is taken; a refused request takes none
 abbrev isTaken : Asked → Bool
 isTaken (Taken p) = true
 isTaken (Refused r) = false
 
+pub not-taken : {n : Refusal} {p : ℕ} → Refused n ≡ Taken p → ⊥
+not-taken e = false≢true (ap isTaken e)
+
+-- the place that is taken; a refused request takes none
 abbrev takenAt : Asked → ℕ
 takenAt (Taken p) = p
 takenAt (Refused r) = 0
-
-by-opening :
-    (c : Terms) (x : Exchange) (q : Primary) (d room : List ℕ) (P : Asking → Type 0)
-    → ((r : Refusal) → P (refused x r room)) → ((p : ℕ) → freeOwn (x .own) ≡ At p → P (openBy (At p) c x q d room)) → P (openOf c x q d room)
-unfolding openOf openFree
-by-opening c x q d room P refuse take =
-    chosen P (badPrimary q) _ _ (λ e. refuse refusal.Message)
-    (λ e.
-    chosen P (dataLong (length d)) _ _ (λ l. refuse refusal.DataLong)
-    (λ l. chosen P (isSending x) _ _ (λ s. refuse refusal.Sending) (λ s. by-free (freeOwn (x .own)) refl)))
-  where
-    by-free : (f : Found) → freeOwn (x .own) ≡ f → P (openBy f c x q d room)
-    by-free (At p) e = take p e
-    by-free Nowhere e = refuse refusal.NoPlace
-
-by-replying :
-    (x : Exchange) (p f : ℕ) (d room : List ℕ) (P : Asking → Type 0)
-    → ((r : Refusal) → P (refused x r room))
-    → (notReady (incomingPlace x p) ≡ false → incomingIsReplied (incomingPlace x p) ≡ false → P (replyAccepted x p f d room)) → P (replyOf x p f d room)
-unfolding replyOf replyReady
-by-replying x p f d room P refuse take =
-    chosen P (notReady (incomingPlace x p)) _ _ (λ e. refuse refusal.Place)
-    (λ ready.
-    chosen P (not (incomingPrimary (incomingPlace x p) .w)) _ _ (λ e. refuse refusal.NotWanted)
-    (λ e.
-    chosen P (incomingIsReplied (incomingPlace x p)) _ _ (λ b. refuse refusal.Replied)
-    (λ new.
-    chosen P (badFunction (incomingPrimary (incomingPlace x p)) f) _ _ (λ b. refuse refusal.Message)
-    (λ b.
-    chosen P (dataLong (length d)) _ _ (λ l. refuse refusal.DataLong)
-    (λ l. chosen P (isSending x) _ _ (λ s. refuse refusal.Sending) (λ s. take ready new))))))
 
 -- ---- refused
 
@@ -98,17 +70,24 @@ pub refused-number : (a : Asked) (r : Refusal) → a ≡ Refused r → askedNumb
 refused-number a r e z = no-zero r (sym (ap askedNumber e) ∙ z)
 
 pub refused-changes-nothing : RefusedChangesNothing
-unfolding refused refusedBy replyAccepted releaseOwn releaseIncoming
-refused-changes-nothing = record {
-  opening = λ c x q d room.
-      by-opening c x q d room (λ a. numbered (a .answer) ≢ 0 → (a .answer .exchange ≡ x) × (a .room ≡ room)) (λ r n. (refl, refl)) (λ p e n. absurd (n refl));
-  replying = λ x p f d room.
-      by-replying x p f d room (λ a. numbered (a .answer) ≢ 0 → (a .answer .exchange ≡ x) × (a .room ≡ room)) (λ r n. (refl, refl)) (λ a b n. absurd (n refl));
-  releasing-own = λ x p.
-      chosen (λ (a : Requested). numbered a ≢ 0 → a .exchange ≡ x) (ownHasVerdict (ownPlace x p)) _ _ (λ e n. absurd (n refl)) (λ e n. refl);
-  releasing-incoming = λ x p.
-      chosen (λ (a : Requested). numbered a ≢ 0 → a .exchange ≡ x) (notReady (incomingPlace x p)) _ _ (λ e n. refl) (λ e n. absurd (n refl));
-}
+unfolding refused refusedBy replyAccepted
+refused-changes-nothing c x r room =
+    by-request c x room (λ r a. numbered (a .answer) ≢ 0 → (a .answer .exchange ≡ x) × (a .room ≡ room)) (λ r n z. (refl, refl))
+    (λ q d p u e z. absurd (z refl)) (λ p f d u a b z. absurd (z refl)) (λ p e z. absurd (z refl)) (λ p e z. absurd (z refl)) r
+
+-- ---- what is written
+
+pub accepted-fills : AcceptedFills
+unfolding refused refusedBy replyAccepted
+accepted-fills c x r room k =
+    by-request c x room (λ r a. a .answer .asked ≡ Taken k → FillsBy r room (a .room)) (λ r n e. absurd (not-taken e))
+    (λ q d p u e z. refl) (λ p f d u a b z. refl) (λ p e z. refl) (λ p e z. refl) r
+
+pub request-spares : RequestSpares
+unfolding refused replyAccepted
+request-spares c x r room =
+    by-request c x room (λ r a. length (a .room) ≡ length room) (λ r n. refl)
+    (λ q d p u e. keeps-only room message.Send 0 d .size) (λ p f d u a b. keeps-only room message.Send 0 d .size) (λ p e. refl) (λ p e. refl) r
 
 -- ---- a primary that is accepted
 
@@ -120,7 +99,7 @@ as-asked c q number = record { r = refl; device = refl; w = refl; stream = refl;
 claimed : (o : Own) (h : List ℕ) → o .stage ≡ own.Free → ownClaimed o h ≡ record { header = h; stage = own.Sending }
 claimed o h e = rw e
 
-opened :
+pub opened :
     (c : Terms) (x : Exchange) (q : Primary) (d room : List ℕ) → Fours x → (p : ℕ) → LowestAt (OwnFree x) p
     → Opened c x q d room p (openBy (At p) c x q d room .answer .exchange) (openBy (At p) c x q d room .room)
 unfolding claimedAt
@@ -148,9 +127,9 @@ opened c x q d room four p w = record {
 pub accepted-opens : AcceptedOpens
 unfolding refused refusedBy
 accepted-opens c x q d room four p =
-    by-opening c x q d room (λ a. a .answer .asked ≡ Taken p → Opened c x q d room p (a .answer .exchange) (a .room))
-    (λ r e. absurd (false≢true (ap isTaken e)))
-    (λ k s e.
+    by-open x room (λ a. a .answer .asked ≡ Taken p → Opened c x q d room p (a .answer .exchange) (a .room))
+    (λ r e. absurd (not-taken e)) c q d
+    (λ k u s e.
     subst (λ (j : ℕ). Opened c x q d room j (openBy (At k) c x q d room .answer .exchange) (openBy (At k) c x q d room .room)) (ap takenAt e)
     (opened c x q d room four k (lowest-free x four k .0 s)))
 
@@ -161,14 +140,14 @@ replies-to : (h : Header) (f : ℕ) → RepliesTo h f (replyTo h f)
 replies-to h f = record { r = refl; device = refl; w = refl; stream = refl; function = refl; system = refl; number = refl; e = refl }
 
 -- a message that is complete, and what an accepted reply makes of it
-record Complete (i : Incoming) : Type 0 where
+pub record Complete (i : Incoming) : Type 0 where
   pub size : ℕ
   pub was : i .stage ≡ incoming.Complete size
   pub becomes : incomingAnswered i ≡ record { header = i .header; stage = incoming.Replying size }
 
-complete-at : (s : IncomingStage) (i : Incoming) → i .stage ≡ s → not (completeAt s) && not (repliedAt s) ≡ false → repliedAt s ≡ false → Complete i
+pub complete-at : (s : IncomingStage) (i : Incoming) → i .stage ≡ s → not (completeAt s) && not (repliedAt s) ≡ false → repliedAt s ≡ false → Complete i
 complete-at incoming.Free i e t n = absurd (true≢false t)
-complete-at (incoming.Open timer next k) i e t n = absurd (true≢false t)
+complete-at (incoming.Open a) i e t n = absurd (true≢false t)
 complete-at (incoming.Complete k) i e t n = record { size = k; was = e; becomes = rw e }
 complete-at (incoming.Replying k) i e t n = absurd (true≢false t)
 complete-at (incoming.Replied k f) i e t n = absurd (true≢false n)
@@ -208,9 +187,9 @@ reply-there x p f d room k = record {
 pub accepted-replies : AcceptedReplies
 unfolding refused refusedBy replyAccepted notReady
 accepted-replies x p f d room k =
-    by-replying x p f d room (λ a. a .answer .asked ≡ Taken k → Replied x p f d room k (a .answer .exchange) (a .room))
-    (λ r e. absurd (false≢true (ap isTaken e)))
-    (λ ready new e.
+    by-reply x room (λ a. a .answer .asked ≡ Taken k → Replied x p f d room k (a .answer .exchange) (a .room))
+    (λ r e. absurd (not-taken e)) p f d
+    (λ u ready new e.
     subst (λ (j : ℕ). Replied x p f d room j (replyAccepted x p f d room .answer .exchange) (replyAccepted x p f d room .room)) (ap takenAt e)
     (reply-there x p f d room (complete-at (incomingPlace x p .stage) (incomingPlace x p) refl ready new)))
 
@@ -220,12 +199,12 @@ own-freed : (s : OwnStage) (o : Own) → givenBy (standingAt s) ≡ true → own
 own-freed own.Free o t = absurd (false≢true t)
 own-freed own.Sending o t = absurd (false≢true t)
 own-freed (own.Awaiting timer) o t = absurd (false≢true t)
-own-freed (own.Replying timer next r) o t = absurd (false≢true t)
+own-freed (own.Replying a) o t = absurd (false≢true t)
 own-freed (own.Done v r) o t = refl
 
 incoming-freed : (s : IncomingStage) (i : Incoming) → not (completeAt s) && not (repliedAt s) ≡ false → incomingReleasedAt s i .stage ≡ incoming.Free
 incoming-freed incoming.Free i t = absurd (true≢false t)
-incoming-freed (incoming.Open timer next n) i t = absurd (true≢false t)
+incoming-freed (incoming.Open a) i t = absurd (true≢false t)
 incoming-freed (incoming.Complete n) i t = refl
 incoming-freed (incoming.Replying n) i t = absurd (true≢false t)
 incoming-freed (incoming.Replied n e) i t = refl
@@ -235,7 +214,7 @@ same-latest : (latest : ℕ) (o q : Own) → ownHasVerdict o ≡ true → latest
 unfolding latestAfter gotVerdict
 same-latest latest o q t = rw t
 
-own-released : (x : Exchange) (p : ℕ) → ownHasVerdict (ownPlace x p) ≡ true → OwnReleased x p p (putOwn x p (ownReleased (ownPlace x p)))
+pub own-released : (x : Exchange) (p : ℕ) → ownHasVerdict (ownPlace x p) ≡ true → OwnReleased x p p (putOwn x p (ownReleased (ownPlace x p)))
 unfolding putOwn
 own-released x p t = record {
   same = refl;
@@ -272,14 +251,12 @@ incoming-released x p t = record {
     there = getD-set-same (x .incoming) p _ freshIncoming (in-table (x .incoming) p freshIncoming used)
 
 pub accepted-releases : AcceptedReleases
-unfolding releaseOwn releaseIncoming refusedBy
+unfolding refused refusedBy
 accepted-releases = record {
   own = λ x p k.
-      chosen (λ (a : Requested). a .asked ≡ Taken k → OwnReleased x p k (a .exchange)) (ownHasVerdict (ownPlace x p)) _ _
-      (λ t e. subst (λ (j : ℕ). OwnReleased x p j (putOwn x p (ownReleased (ownPlace x p)))) (ap takenAt e) (own-released x p t))
-      (λ t e. absurd (false≢true (ap isTaken e)));
+      by-free-own x [] (λ a. a .answer .asked ≡ Taken k → OwnReleased x p k (a .answer .exchange)) (λ r e. absurd (not-taken e)) p
+      (λ t e. subst (λ (j : ℕ). OwnReleased x p j (putOwn x p (ownReleased (ownPlace x p)))) (ap takenAt e) (own-released x p t));
   incoming = λ x p k.
-      chosen (λ (a : Requested). a .asked ≡ Taken k → IncomingReleased x p k (a .exchange)) (notReady (incomingPlace x p)) _ _
-      (λ t e. absurd (false≢true (ap isTaken e)))
+      by-free-incoming x [] (λ a. a .answer .asked ≡ Taken k → IncomingReleased x p k (a .answer .exchange)) (λ r e. absurd (not-taken e)) p
       (λ t e. subst (λ (j : ℕ). IncomingReleased x p j (putIncoming x p (incomingReleased (incomingPlace x p)))) (ap takenAt e) (incoming-released x p t));
 }

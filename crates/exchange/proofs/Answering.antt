@@ -10,6 +10,7 @@ use lib.Dec.{eqb}
 use lib.ListN.{length, set, replicate}
 use lib.Seq.{getD-set-same, getD-set-other, set-getD, set-set}
 use borrow.Author.Tests.{eqb-true, eq-eqb, ne-eqb}
+use Rattle.wire.specs.Message.{messageLimit}
 use Rattle.wire.proofs.Choice.{chosen, both}
 use Rattle.header.specs.Header.{InRange, headerBytes, headerOf}
 use Rattle.header.specs.declared.header.Header.{Header}
@@ -23,7 +24,7 @@ use Rattle.room.specs.Room.{keptIn}
 use Rattle.room.specs.declared.Message.the-variants as message
 use Rattle.place.specs.Message.{Routed}
 use Rattle.place.specs.Fate.{beginsReply, fateOf}
-use Rattle.place.specs.Own.{freshOwn, replyOf, replyHeader, ownHasVerdict, ownKept, awaits, continuesReply, ownTakes, verdictOf, repliedBy, replied, ownOffered}
+use Rattle.place.specs.Own.{freshOwn, replyOf, ownHasVerdict, ownKept, awaits, continuesReply, ownTakes, verdictOf, repliedBy, replied, ownOffered}
 use Rattle.place.specs.declared.Fate.the-variants.{Last, More}
 use Rattle.place.specs.declared.OwnStage.{OwnStage}
 use Rattle.place.specs.declared.OwnStage.the-variants.{Awaiting, Replying, Done}
@@ -33,7 +34,7 @@ use Rattle.place.specs.declared.Verdict.the-variants.{Sent, Answered, Declined,
 use Rattle.place.proofs.Judging.{reply-exactly, continues-exactly}
 use Rattle.table.specs.Find.{firstFrom, firstOf}
 use Rattle.table.specs.Number.{numberOf}
-use Rattle.table.specs.Own.{withOwn, replyFor}
+use Rattle.table.specs.Own.{ownPut, replyFor}
 use Rattle.table.specs.declared.Found.the-variants.{At, Nowhere}
 use Rattle.exchange.specs.Flags.{noMarks, markAt, noFlags, verdictFlag}
 use Rattle.exchange.specs.Exchange.{gotVerdict, latestAfter, putOwn, savedNow}
@@ -47,13 +48,13 @@ use Rattle.exchange.specs.declared.Exchange.{Exchange}
 use Rattle.exchange.specs.declared.Judged.{Judged}
 use Rattle.exchange.proofs.Repeated.{more, any-fresh}
 use Rattle.exchange.proofs.Outcomes.{not-saved, of-reply}
-use Rattle.exchange.proofs.Blocks.{routed-at, said, differ, fate-at}
+use Rattle.exchange.proofs.Blocks.{arrivedAt, routed-at, said, differ, fate-at}
 use Rattle.exchange.proofs.Growing.{filling, kept-front}
 
 -- ---- a table of four in which one place is in use
 
 abbrev alone : ℕ → Own → List Own
-alone p o = withOwn (replicate 4 freshOwn) p o
+alone p o = ownPut (replicate 4 freshOwn) p o
 
 -- that place is found
 found-at : (o : Own) (g : Header) (p : ℕ) → p < 4 → ownTakes o g ≡ true → replyFor (alone p o) g ≡ At p
@@ -72,7 +73,7 @@ unmarked p = let z : markAt p false ≡ noMarks = ap (set noMarks p) (sym (any-f
 
 -- after block k with n bytes in all: the last gives the verdict
 abbrev stage-by : Bool → Verdict → ℕ → Header → ℕ → OwnStage
-stage-by t v k h n = cond t (Done v (replyOf h n)) (Replying 0 (k + 1) (replyOf h n))
+stage-by t v k h n = cond t (Done v (replyOf h n)) (Replying (arrivedAt h k n))
 
 -- what its place is then
 offered-at : (o : Own) (g : Header) (size n : ℕ) (t : Bool) → ownTakes o g ≡ true → fateOf g (ownKept o .length) size ≡ cond t (Last n) (More n)
@@ -131,7 +132,7 @@ replied-at x p before after n false d room e = rw e
 -- ---- all blocks of a reply
 
 module _ (c : Terms) (x : Exchange) (p : ℕ) (less4 : p < 4) (g h : Header) (ig : InRange g) (i : InRange h) (even : h .function % 2 ≡ 0)
-    (q : Routed c h) (to : IsReply g h) (d : List ℕ) (short : length d ≤ 4096) (v : Verdict) (given : verdictOf (place-at g (Awaiting 0)) h ≡ v) where
+    (q : Routed c h) (to : IsReply g h) (d : List ℕ) (short : length d ≤ messageLimit) (v : Verdict) (given : verdictOf (place-at g (Awaiting 0)) h ≡ v) where
   -- the first is the first block of the awaited reply
   takes-first : (timer : ℕ) → 1 ≤ blockCount (length d) → ownTakes (place-at g (Awaiting timer)) (headerOf (headerIn h d 1)) ≡ true
   unfolding awaits headerAt
@@ -141,12 +142,12 @@ module _ (c : Terms) (x : Exchange) (p : ℕ) (less4 : p < 4) (g h : Header) (ig
       (eq-eqb (g .system) (h .system) (sym (to .system)), reply-exactly (headerAt h (length d) 1) .1 (even, inl refl)))
 
   -- a further one continues it
-  takes : (k n : ℕ) → k < blockCount (length d) → ownTakes (place-at g (Replying 0 (k + 1) (replyOf h n))) (headerOf (headerIn h d (suc k))) ≡ true
+  takes : (k n : ℕ) → k < blockCount (length d) → ownTakes (place-at g (Replying (arrivedAt h k n))) (headerOf (headerIn h d (suc k))) ≡ true
   unfolding continuesReply headerAt
   takes k n less =
-      rw (said h d i short (suc k) less, header-and-back g ig, add-one k)
-      (continues-exactly (replyHeader g (replyOf h n)) (suc k) (headerAt h (length d) (suc k)) .1
-      (record { device = to .device; system = to .system; w = refl; stream = refl; function = refl; number = refl }))
+      rw (said h d i short (suc k) less, header-and-back g ig)
+      (continues-exactly (g .device) (g .system) (arrivedAt h k n) (headerAt h (length d) (suc k)) .1
+      (record { device = to .device; system = to .system; w = refl; stream = refl; function = refl; number = sym (add-one k) }))
 
   -- what its place is after block k + 1
   stage : Bool → ℕ → OwnStage
@@ -213,7 +214,7 @@ module _ (c : Terms) (x : Exchange) (p : ℕ) (less4 : p < 4) (g h : Header) (ig
         let n : ℕ = length (joined h d (suc k)) in
         ap (λ (r : Receiver). receives c r (headerIn h d (suc (suc k))) (dataIn h d (suc (suc k)))) before
         ∙ ap (heard (stands k false))
-        (judged (suc k) t (filling room (message.Reply p) h d (suc k)) (Replying 0 (suc k + 1) (replyOf h n)) (saved-as (headerIn h d (suc k))) less e
+        (judged (suc k) t (filling room (message.Reply p) h d (suc k)) (Replying (arrivedAt h (suc k) n)) (saved-as (headerIn h d (suc k))) less e
         (not-saved c (after k false) (headerIn h d (suc (suc k))) (differ h d i short (suc k) (suc (suc k)) (omega arith) less (λ z. omega arith)))
         (takes (suc k) n less) refl refl)
         ∙ (λ j. record {

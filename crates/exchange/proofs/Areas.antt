@@ -6,14 +6,14 @@ use mathlib.Core.List.{List, [], _∷_}
 use mathlib.Core.Logic.{_⊎_, inl, inr}
 use native.Mathlib.Omega.{arith}
 use lib.ListN.{length, length-map, getD-replicate}
-use Rattle.wire.proofs.Choice.{chosen}
+use Rattle.wire.specs.Message.{messageLimit}
 use Rattle.header.specs.Header.{headerOf, headerBytes}
 use Rattle.header.specs.declared.header.Header.{Header}
 use Rattle.settings.specs.declared.terms.Terms.{Terms}
 use Rattle.room.specs.Room.{keptIn}
 use Rattle.room.specs.declared.Message.the-variants as message
 use Rattle.place.specs.Fate.{fateOf}
-use Rattle.place.specs.Own.{freshOwn, keptAt, ownHasVerdict, ownTick, ownClaimed}
+use Rattle.place.specs.Own.{freshOwn, keptAt, ownTick, ownClaimed}
 use Rattle.place.specs.Incoming.{freshIncoming, lengthAt, freeAt, openAt, incomingTick, begins, begunBy, incomingBegun, incomingAnswered}
 use Rattle.place.proofs.Messages.{by-fate}
 use Rattle.place.specs.declared.Fate.{Fate}
@@ -33,10 +33,10 @@ use Rattle.exchange.specs.Exchange.{ownPlace, incomingPlace, putOwn, put
 use Rattle.exchange.specs.Tick.{tickOf}
 use Rattle.exchange.specs.Send.{endedOwn, endedReply, sentBy, failedBy}
 use Rattle.exchange.specs.Judge.{Judging, thrown, spoiltBy, replyBlock, messageBlock, beginsAt, judgeOf}
-use Rattle.exchange.specs.Request.{Asking, notReady, refusedBy, refused, primaryHeader, claimedAt, openOf, replyAccepted, replyOf, releaseOwn, releaseIncoming}
-use Rattle.exchange.specs.History.{Call, block, tick, acknowledged, failed, primary, reply, free-own, free-incoming, Joined, anew, ofNew, joins, ifKept, opens, replies, Track, next, track, atStart}
+use Rattle.exchange.specs.Request.{Requesting, refusedBy, refused, primaryHeader, claimedAt, replyAccepted, Request, reply, answerOf}
+use Rattle.exchange.specs.History.{Call, block, tick, acknowledged, failed, request, Joined, anew, ofNew, joins, ifKept, joinsAsked, Track, next, track, atStart}
 use Rattle.exchange.specs.Theorems.{Reached, StartsWith, hasReply, lengthSent, sends, JoinedInAreas}
-use Rattle.exchange.proofs.Cases.{Thrown, stray, no-place, too-long, empty, Takes, by-judge, by-open, by-reply}
+use Rattle.exchange.proofs.Cases.{Thrown, stray, no-place, too-long, empty, Takes, by-judge, by-request}
 use Rattle.exchange.proofs.Tables.{map-every}
 use Rattle.exchange.proofs.Filling.{Fills, spares-same, spares-kept, fills-first, fits-area}
 use Rattle.exchange.proofs.Holding.{OwnHolds, IncomingHolds, SendHolds, own-ticked, own-sent, own-failed, own-released, own-claimed, incoming-ticked, incoming-answered, incoming-ended, incoming-released}
@@ -46,17 +46,16 @@ use Rattle.exchange.specs.declared.Sending.{Sending}
 use Rattle.exchange.specs.declared.Sending.the-variants as sending
 use Rattle.exchange.specs.declared.Exchange.{Exchange}
 use Rattle.exchange.specs.declared.Primary.{Primary}
-use Rattle.exchange.specs.declared.Requested.{Requested}
 
 -- ---- a block
 
 -- a primary that begins in a free place, or instead of an open message
 begun-holds : (room : List ℕ) (p : ℕ) → length room ≡ 36864 → p < 4 → (h : Header) (d : List ℕ) (i : Incoming) → spoiltBy (fateOf h 0 (length d)) ≡ false
-    → IncomingHolds (keptIn room (message.Incoming p) 0 d) p (begunBy i h (h .number) (fateOf h 0 (length d)) .stage) d
+    → IncomingHolds (keptIn room (message.Incoming p) 0 d) p (begunBy i h (fateOf h 0 (length d)) .stage) d
 begun-holds room p w k h d i =
     let z : 0 + length d ≡ length d = omega arith in
     by-fate h 0 (length d)
-    (λ (f : Fate). spoiltBy f ≡ false → IncomingHolds (keptIn room (message.Incoming p) 0 d) p (begunBy i h (h .number) f .stage) d)
+    (λ (f : Fate). spoiltBy f ≡ false → IncomingHolds (keptIn room (message.Incoming p) 0 d) p (begunBy i h f .stage) d)
     (λ l e. absurd (false≢true (sym e)))
     (λ l m e. absurd (false≢true (sym e)))
     (λ l m fits e. subst (λ n. Fills (keptIn room (message.Incoming p) 0 d) (message.Incoming p) n d) (sym z) (fills-first room (message.Incoming p) d w k (omega arith)))
@@ -64,11 +63,11 @@ begun-holds room p w k h d i =
 
 -- where a primary begins, no message is complete
 pub begun-at : (h : Header) (d : List ℕ) (q : Header) (s : IncomingStage) (P : Incoming → Type 0) → (freeAt s ≡ true) ⊎ (openAt s ≡ true)
-    → P (begunBy (record { header = q; stage = s }) h (h .number) (fateOf h 0 (length d)))
+    → P (begunBy (record { header = q; stage = s }) h (fateOf h 0 (length d)))
     → P (incomingBegun (record { header = q; stage = s }) h (length d))
 unfolding begins
 begun-at h d q arrival.Free P e w = w
-begun-at h d q (arrival.Open timer next n) P e w = w
+begun-at h d q (arrival.Open a) P e w = w
 begun-at h d q (arrival.Complete n) P (inl e) w = absurd (false≢true e)
 begun-at h d q (arrival.Complete n) P (inr e) w = absurd (false≢true e)
 begun-at h d q (arrival.Replying n) P (inl e) w = absurd (false≢true e)
@@ -157,32 +156,13 @@ module _ (x : Exchange) (room : List ℕ) (s : Joined) (g : Good x room s) where
   failed-joined (sending.Primary p n) = let o = ownPlace x p in idle _ (own-only x room s g p _ (own-failed room p (s .replies p) (o .header) (o .stage) (own-any x room s g p)))
   failed-joined (sending.Reply p f n) = let i = incomingPlace x p in idle _ (incoming-only x room s g p _ (incoming-ended room p (s .messages p) end.Failed (i .header) (i .stage) (incoming-any x room s g p)))
 
-  -- ---- releases
-
-  own-freed : (p : ℕ) → Good (releaseOwn x p .exchange) room s
-  unfolding releaseOwn refusedBy
-  own-freed p =
-      let o = ownPlace x p in
-      chosen (λ (a : Requested). Good (a .exchange) room s) (ownHasVerdict o) _ _
-      (λ e. own-only x room s g p _ (own-released room p (s .replies p) (o .header) (o .stage) (own-any x room s g p))) (λ e. g)
-
-  incoming-freed : (p : ℕ) → Good (releaseIncoming x p .exchange) room s
-  unfolding releaseIncoming refusedBy
-  incoming-freed p =
-      let i = incomingPlace x p in
-      chosen (λ (a : Requested). Good (a .exchange) room s) (notReady i) _ _ (λ e. g)
-      (λ e. incoming-only x room s g p _ (incoming-released room p (s .messages p) (i .header) (i .stage) (incoming-any x room s g p)))
-
   -- ---- requests
 
-  -- what a request for a primary, and one for a reply, leaves is good
-  abbrev Opened : List ℕ → Asking → Type 0
-  Opened d a = Good (a .answer .exchange) (a .room) (opens (a .answer .asked) s d)
+  -- what one leaves is good
+  abbrev Asked : Request → Requesting → Type 0
+  Asked r a = Good (a .answer .exchange) (a .room) (joinsAsked r (a .answer .asked) s)
 
-  abbrev Answered : List ℕ → Asking → Type 0
-  Answered d a = Good (a .answer .exchange) (a .room) (replies (a .answer .asked) s d)
-
-  module _ (d : List ℕ) (fits : length d ≤ 4096) where
+  module _ (d : List ℕ) (fits : length d ≤ messageLimit) where
     -- the message to be sent lies in the send area
     to-send : (y : Exchange) (t : Joined) → Good y room t → (q : Sending) → ((after : List ℕ) → Fills after message.Send (length d) d → SendHolds after q d)
         → Good (withSending y q) (keptIn room message.Send 0 d) (record { replies = t .replies; messages = t .messages; outgoing = d })
@@ -203,19 +183,18 @@ module _ (x : Exchange) (room : List ℕ) (s : Joined) (g : Good x room s) where
         let all = to-send (putOwn x p new) (record { replies = anew (s .replies) p []; messages = s .messages; outgoing = s .outgoing }) put (sending.Primary p (length d)) (λ after f. f) in
         record { whole = all .whole; own-four = all .own-four; incoming-four = all .incoming-four; own = all .own; incoming = all .incoming; sends = all .sends }
 
-    answered : (p f : ℕ) → Answered d (replyAccepted x p f d room)
+    answered : (p f : ℕ) → Asked (reply p f d) (replyAccepted x p f d room)
     unfolding replyAccepted
     answered p f =
         let i = incomingPlace x p in
         to-send (putIncoming x p (incomingAnswered i)) s (incoming-only x room s g p _ (incoming-answered room p (s .messages p) (i .header) (i .stage) (incoming-any x room s g p))) (sending.Reply p f (length d)) (λ after w. w)
 
-  primary-joined : (c : Terms) (q : Primary) (d : List ℕ) → Opened d (openOf c x q d room)
+  request-joined : (c : Terms) (r : Request) → Asked r (answerOf c x r room)
   unfolding refused refusedBy
-  primary-joined c q d = by-open x d room (Opened d) (λ r. g) c q (λ p l e. claimed d (fits-area d l) c q p e)
-
-  reply-asked : (p f : ℕ) (d : List ℕ) → Answered d (replyOf x p f d room)
-  unfolding refused refusedBy
-  reply-asked p f d = by-reply x d room (Answered d) (λ r. g) p f (λ e l. answered d (fits-area d l) p f)
+  request-joined c =
+      by-request c x room Asked (λ r n. g) (λ q d p u e. claimed d (fits-area d (u .fits)) c q p e) (λ p f d u a b. answered d (fits-area d (u .fits)) p f)
+      (λ p e. let o = ownPlace x p in own-only x room s g p _ (own-released room p (s .replies p) (o .header) (o .stage) (own-any x room s g p)))
+      (λ p e. let i = incomingPlace x p in incoming-only x room s g p _ (incoming-released room p (s .messages p) (i .header) (i .stage) (incoming-any x room s g p)))
 
 -- ---- any calls
 
@@ -228,10 +207,7 @@ one-call c t (block h d) g = judge-joined c (t .exchange) h d (t .room) (t .seen
 one-call c t tick g = tick-joined (t .exchange) (t .room) (t .seen) g c
 one-call c t acknowledged g = sent-joined (t .exchange) (t .room) (t .seen) g (t .exchange .sending)
 one-call c t failed g = failed-joined (t .exchange) (t .room) (t .seen) g (t .exchange .sending)
-one-call c t (primary q d) g = primary-joined (t .exchange) (t .room) (t .seen) g c q d
-one-call c t (reply p f d) g = reply-asked (t .exchange) (t .room) (t .seen) g p f d
-one-call c t (free-own p) g = own-freed (t .exchange) (t .room) (t .seen) g p
-one-call c t (free-incoming p) g = incoming-freed (t .exchange) (t .room) (t .seen) g p
+one-call c t (request r) g = request-joined (t .exchange) (t .room) (t .seen) g c r
 
 all-calls : (c : Terms) (t : Track) (ks : List Call) → GoodTrack t → GoodTrack (track c t ks)
 unfolding track
@@ -258,12 +234,12 @@ reply-begins : (room : List ℕ) (p : ℕ) (o : OwnStage) (bs : List ℕ) → Ow
 reply-begins room p stage.Free bs h e = absurd (false≢true e)
 reply-begins room p stage.Sending bs h e = absurd (false≢true e)
 reply-begins room p (stage.Awaiting timer) bs h e = absurd (false≢true e)
-reply-begins room p (stage.Replying timer next r) bs h e = h .begins
+reply-begins room p (stage.Replying a) bs h e = h .begins
 reply-begins room p (stage.Done v r) bs h e = h e .begins
 
 message-begins : (room : List ℕ) (p : ℕ) (i : IncomingStage) (bs : List ℕ) → IncomingHolds room p i bs → freeAt i ≡ false → StartsWith room (message.Incoming p) (lengthAt i) bs
 message-begins room p arrival.Free bs h e = absurd (false≢true (sym e))
-message-begins room p (arrival.Open timer next n) bs h e = h .begins
+message-begins room p (arrival.Open a) bs h e = h .begins
 message-begins room p (arrival.Complete n) bs h e = h .begins
 message-begins room p (arrival.Replying n) bs h e = h .begins
 message-begins room p (arrival.Replied n z) bs h e = h .begins

@@ -1,14 +1,14 @@
 -- Assembly of a cut message is the message (`specs/Assembly.antt`). Assumes nothing.
-use Prim.Native.Nat.{ℕ, zero, suc, _+_, _-_, _%_, _≤_, _<_}
+use Prim.Native.Nat.{ℕ, zero, suc, _-_, _%_, _≤_, _<_}
 use mathlib.Core.Path.{_≡_, refl, ap, subst, _∙_}
 use mathlib.Core.Bool.{Bool, true, false, cond}
 use mathlib.Core.List.{List, [], _∷_, _++_}
 use mathlib.Core.Logic.{inl}
 use native.Mathlib.Omega.{arith}
-use native.Mathlib.Numerals.{add-one}
 use lib.Dec.{eqb}
 use lib.ListN.{length, replicate}
 use borrow.Author.Tests.{eq-eqb, ne-eqb}
+use Rattle.wire.specs.Message.{messageLimit}
 use Rattle.header.specs.Header.{InRange, headerOf}
 use Rattle.header.specs.declared.header.Header.{Header}
 use Rattle.settings.specs.declared.terms.Terms.{Terms}
@@ -19,7 +19,9 @@ use Rattle.cut.proofs.Cutting.{cut-joined}
 use Rattle.room.specs.Room.{keptIn}
 use Rattle.room.specs.declared.Message.the-variants as message
 use Rattle.place.specs.Message.{Routed}
-use Rattle.place.specs.Fate.{beginsPrimary, continuesOf, fateOf}
+use Rattle.place.specs.Fate.{beginsPrimary, fateOf}
+use Rattle.place.specs.Arriving.{continuesArriving}
+use Rattle.place.specs.declared.Arriving.{Arriving}
 use Rattle.place.specs.Own.{freshOwn}
 use Rattle.place.specs.Incoming.{freshIncoming, begunBy, begins, incomingBegun, continuesHere, keptBy, goesOn, incomingOffered}
 use Rattle.place.specs.declared.Fate.{Fate}
@@ -44,7 +46,7 @@ use Rattle.exchange.specs.declared.Judged.{Judged}
 use Rattle.exchange.specs.declared.IncomingReading.the-variants as incoming
 use Rattle.exchange.proofs.Repeated.{more, any-fresh}
 use Rattle.exchange.proofs.Outcomes.{not-saved, of-message, of-primary}
-use Rattle.exchange.proofs.Blocks.{same-header, number-at, routed-at, continues-at, said, differ, fate-at}
+use Rattle.exchange.proofs.Blocks.{same-header, arrivedAt, routed-at, continues-at, said, differ, fate-at}
 use Rattle.exchange.proofs.Growing.{filling, kept-front}
 
 -- ---- the states between
@@ -63,9 +65,9 @@ holding last first b s = record {
   sending = sending.Nothing;
 }
 
--- after a block with this number and n bytes in all: the last completes the message
-abbrev stage-by : Bool → ℕ → ℕ → IncomingStage
-stage-by t number n = cond t (Complete n) (Open 0 (number + 1) n)
+-- after block k of the message with header h, n bytes in all: the last completes the message
+abbrev stage-by : Bool → ℕ → Header → ℕ → IncomingStage
+stage-by t k h n = cond t (Complete n) (Open (arrivedAt h k n))
 
 -- what such a block is answered with
 abbrev answer-by : Bool → Exchange → Judged
@@ -75,46 +77,48 @@ answer-by t x = record { exchange = x; note = Kept; flags = incomingFlags 0 t fa
 
 -- the first block of a primary in a fresh place
 begun-at : (b : Header) (size n : ℕ) (t : Bool) → fateOf b 0 size ≡ cond t (Last n) (More n)
-    → incomingBegun freshIncoming b size ≡ message-at b (stage-by t (b .number) n)
+    → incomingBegun freshIncoming b size ≡ message-at b (stage-by t (b .number) b n)
 unfolding begins
-begun-at b size n t e = ap (begunBy freshIncoming b (b .number)) e ∙ by t
+begun-at b size n t e = ap (begunBy freshIncoming b) e ∙ by t
   where
-    by : (t : Bool) → begunBy freshIncoming b (b .number) (cond t (Last n) (More n)) ≡ message-at b (stage-by t (b .number) n)
+    by : (t : Bool) → begunBy freshIncoming b (cond t (Last n) (More n)) ≡ message-at b (stage-by t (b .number) b n)
     by true = refl
     by false = refl
 
 -- a further block of an open message
-offered-at : (first g : Header) (next have size n : ℕ) (t : Bool)
-    → continuesOf first next g ≡ true → fateOf g have size ≡ cond t (Last n) (More n)
-    → incomingOffered (message-at first (Open 0 next have)) g size ≡ message-at first (stage-by t (g .number) n)
+offered-at : (first g : Header) (a : Arriving) (size n : ℕ) (t : Bool)
+    → continuesArriving (first .device) (first .system) a g ≡ true → fateOf g (a .length) size ≡ cond t (Last n) (More n)
+    → incomingOffered (message-at first (Open a)) g size ≡ message-at first (stage-by t (g .number) g n)
 unfolding incomingOffered goesOn continuesHere
-offered-at first g next have size n t takes e =
-    ap (λ (k : Bool). cond k (goesOn (message-at first (Open 0 next have)) g size) (message-at first (Open 0 next have))) takes
-    ∙ ap (keptBy (message-at first (Open 0 next have)) (g .number)) e ∙ by t
+offered-at first g a size n t takes e =
+    ap (λ (k : Bool). cond k (goesOn (message-at first (Open a)) g size) (message-at first (Open a))) takes
+    ∙ ap (keptBy (message-at first (Open a)) g) e ∙ by t
   where
-    by : (t : Bool) → keptBy (message-at first (Open 0 next have)) (g .number) (cond t (Last n) (More n)) ≡ message-at first (stage-by t (g .number) n)
+    by : (t : Bool) → keptBy (message-at first (Open a)) g (cond t (Last n) (More n)) ≡ message-at first (stage-by t (g .number) g n)
     by true = refl
     by false = refl
 
 -- what it is answered with, and what becomes of its data
-continued-at : (x : Exchange) (first : Header) (next have n : ℕ) (after : Incoming) (t : Bool) (d room : List ℕ)
-    → continuedAs x 0 (message-at first (Open 0 next have)) after (cond t (Last n) (More n)) d room
-    ≡ judging (answer-by t (putIncoming x 0 after)) (keptIn room (message.Incoming 0) have d)
-continued-at x first next have n after true d room = refl
-continued-at x first next have n after false d room = refl
+continued-at : (x : Exchange) (first : Header) (a : Arriving) (n : ℕ) (after : Incoming) (t : Bool) (d room : List ℕ)
+    → continuedAs x 0 (message-at first (Open a)) after (cond t (Last n) (More n)) d room
+    ≡ judging (answer-by t (putIncoming x 0 after)) (keptIn room (message.Incoming 0) (a .length) d)
+continued-at x first a n after true d room = refl
+continued-at x first a n after false d room = refl
 
 -- it is found to continue the message in place 0
-found-at : (first g : Header) (next have : ℕ) → continuesOf first next g ≡ true
-    → messageFor (message-at first (Open 0 next have) ∷ replicate 3 freshIncoming) g ≡ At 0
+found-at : (first g : Header) (a : Arriving) → continuesArriving (first .device) (first .system) a g ≡ true
+    → messageFor (message-at first (Open a) ∷ replicate 3 freshIncoming) g ≡ At 0
 unfolding messageFor firstOf firstFrom continuesHere
-found-at first g next have takes = ap (λ (k : Bool). cond k (At 0) Nowhere) takes
+found-at first g a takes = ap (λ (k : Bool). cond k (At 0) Nowhere) takes
 
 -- ---- all blocks of a message
 
 module _ (c : Terms) (last : ℕ) (h : Header) (d : List ℕ) (i : InRange h) (q : Routed c h) (odd : h .function % 2 ≡ 1)
-    (short : length d ≤ 4096) where
-  number : (k : ℕ) → k ≤ blockCount (length d) → headerOf (headerIn h d k) .number ≡ k
-  number k most = ap (λ (g : Header). g .number) (said h d i short k most) ∙ number-at h (length d) k
+    (short : length d ≤ messageLimit) where
+  -- what the header of block k leaves of it
+  stage-is : (k n : ℕ) (t : Bool) → k ≤ blockCount (length d) → stage-by t (headerOf (headerIn h d k) .number) (headerOf (headerIn h d k)) n ≡ stage-by t k h n
+  unfolding headerAt
+  stage-is k n t most = ap (λ (g : Header). stage-by t (g .number) g n) (said h d i short k most)
 
   -- the first begins a primary
   begins-primary : 1 ≤ blockCount (length d) → beginsPrimary (headerOf (headerIn h d 1)) ≡ true
@@ -122,14 +126,16 @@ module _ (c : Terms) (last : ℕ) (h : Header) (d : List ℕ) (i : InRange h) (q
   begins-primary some = rw (said h d i short 1 some) (primary-exactly (headerAt h (length d) 1) .1 (odd, inl refl))
 
   -- a further one continues the message of the first
-  takes : (k : ℕ) → k < blockCount (length d) → continuesOf (headerOf (headerIn h d 1)) (k + 1) (headerOf (headerIn h d (suc k))) ≡ true
-  takes k less =
-      rw (said h d i short 1 (omega arith), said h d i short (suc k) less, add-one k)
-      (continues-exactly (headerAt h (length d) 1) (suc k) (headerAt h (length d) (suc k)) .1 (continues-at h (length d) (suc k) 1))
+  takes : (k n : ℕ) → k < blockCount (length d)
+      → continuesArriving (headerOf (headerIn h d 1) .device) (headerOf (headerIn h d 1) .system) (arrivedAt h k n) (headerOf (headerIn h d (suc k))) ≡ true
+  unfolding headerAt
+  takes k n less =
+      rw (said h d i short 1 (omega arith), said h d i short (suc k) less)
+      (continues-exactly (h .device) (h .system) (arrivedAt h k n) (headerAt h (length d) (suc k)) .1 (continues-at h (length d) k n))
 
   -- the transactions after block k
   after : ℕ → Bool → Exchange
-  after k t = holding last (headerOf (headerIn h d 1)) (headerIn h d k) (stage-by t k (length (joined h d k)))
+  after k t = holding last (headerOf (headerIn h d 1)) (headerIn h d k) (stage-by t k h (length (joined h d k)))
 
   -- block 1 opens the message, or completes it at once
   first-judged : (t : Bool) (room : List ℕ) → 1 ≤ blockCount (length d) → eqb 1 (blockCount (length d)) ≡ t
@@ -143,7 +149,7 @@ module _ (c : Terms) (last : ℕ) (h : Header) (d : List ℕ) (i : InRange h) (q
       of-primary c (freshExchange last) b (dataIn h d 1) room (routed-at h d i short c 1 some q) (not-saved c (freshExchange last) b refl) 0 n t
       refl refl refl refl (begins-primary some) f
       ∙ ap (λ (o : Incoming). judging (answer-by t (putIncoming (savedNow (freshExchange last) b) 0 o)) (keptIn room (message.Incoming 0) 0 (dataIn h d 1)))
-      (begun-at (headerOf b) (length (dataIn h d 1)) n t f ∙ ap (λ (m : ℕ). message-at (headerOf b) (stage-by t m n)) (number 1 some))
+      (begun-at (headerOf b) (length (dataIn h d 1)) n t f ∙ ap (message-at (headerOf b)) (stage-is 1 n t some))
 
   -- block k + 1 continues it, or completes it
   further-judged : (k : ℕ) (t : Bool) (room : List ℕ) → 1 ≤ k → k < blockCount (length d) → eqb (suc k) (blockCount (length d)) ≡ t
@@ -158,14 +164,15 @@ module _ (c : Terms) (last : ℕ) (h : Header) (d : List ℕ) (i : InRange h) (q
       let n : ℕ = length (joined h d (suc k)) in
       let f = fate-at h d i short k t less e in
       let x : Exchange = savedNow (after k false) b in
-      let before : Incoming = message-at first (Open 0 (k + 1) have) in
+      let a : Arriving = arrivedAt h k have in
+      let before : Incoming = message-at first (Open a) in
       of-message c (after k false) b (dataIn h d (suc k)) room (routed-at h d i short c (suc k) less q)
       (not-saved c (after k false) b (differ h d i short k (suc k) (omega arith) less (λ z. omega arith)))
-      0 refl (found-at first (headerOf b) (k + 1) have (takes k less))
-      ∙ ap (λ (a : Fate). continuedAs x 0 before (incomingOffered before (headerOf b) size) a (dataIn h d (suc k)) room) f
-      ∙ continued-at x first (k + 1) have n (incomingOffered before (headerOf b) size) t (dataIn h d (suc k)) room
+      0 refl (found-at first (headerOf b) a (takes k have less))
+      ∙ ap (λ (z : Fate). continuedAs x 0 before (incomingOffered before (headerOf b) size) z (dataIn h d (suc k)) room) f
+      ∙ continued-at x first a n (incomingOffered before (headerOf b) size) t (dataIn h d (suc k)) room
       ∙ ap (λ (o : Incoming). judging (answer-by t (putIncoming x 0 o)) (keptIn room (message.Incoming 0) have (dataIn h d (suc k))))
-      (offered-at first (headerOf b) (k + 1) have size n t (takes k less) f ∙ ap (λ (m : ℕ). message-at first (stage-by t m n)) (number (suc k) less))
+      (offered-at first (headerOf b) a size n t (takes k have less) f ∙ ap (message-at first) (stage-is (suc k) n t less))
 
   -- ---- all of them
 

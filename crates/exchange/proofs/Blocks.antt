@@ -6,21 +6,25 @@ use mathlib.Core.Bool.{Bool, false, cond}
 use mathlib.Core.List.{List}
 use mathlib.Core.Logic.{⊎-elim}
 use native.Mathlib.Omega.{arith}
+use native.Mathlib.Numerals.{add-one}
 use lib.Dec.{eqb}
 use lib.ListN.{length, length-append, length-take}
 use borrow.Author.Tests.{eqb-false}
+use Rattle.wire.specs.Message.{messageLimit}
 use Rattle.wire.proofs.Choice.{either}
 use Rattle.header.specs.Header.{InRange, headerOf}
 use Rattle.header.specs.Theorems.{SameElse}
 use Rattle.header.specs.declared.header.Header.{Header}
 use Rattle.header.proofs.Headers.{header-and-back, numbered-keeps}
 use Rattle.settings.specs.declared.terms.Terms.{Terms}
-use Rattle.cut.specs.Blocks.{blockCount, headerAt}
+use Rattle.cut.specs.Blocks.{blockCount, mostBlocks, headerAt}
 use Rattle.cut.specs.Theorems.{joined}
-use Rattle.cut.proofs.Counts.{count-is-fewest}
+use Rattle.cut.proofs.Counts.{count-is-fewest, most-blocks}
 use Rattle.cut.proofs.Cutting.{joined-front}
-use Rattle.place.specs.Message.{Routed, Continues, LacksData}
+use Rattle.place.specs.Message.{Routed, Continuing, LacksData}
 use Rattle.place.specs.Fate.{fateOf}
+use Rattle.place.specs.Arriving.{kindOf}
+use Rattle.place.specs.declared.Arriving.{Arriving}
 use Rattle.place.specs.declared.Fate.the-variants.{Last, More}
 use Rattle.exchange.specs.Judge.{sameBytes}
 use Rattle.exchange.specs.Assembly.{headerIn, dataIn}
@@ -36,10 +40,14 @@ pub number-at : (h : Header) (n k : ℕ) → headerAt h n k .number ≡ k
 unfolding headerAt
 number-at h n k = refl
 
--- block j continues the message of block k
-pub continues-at : (h : Header) (n j k : ℕ) → Continues (headerAt h n k) j (headerAt h n j)
+-- the message once block k was kept, n bytes in all
+abbrev pub arrivedAt : Header → ℕ → ℕ → Arriving
+arrivedAt h k n = record { timer = 0; next = k + 1; kind = kindOf h; length = n }
+
+-- block k + 1 of m bytes continues it then
+pub continues-at : (h : Header) (m k n : ℕ) → Continuing (h .device) (h .system) (arrivedAt h k n .next) (arrivedAt h k n .kind) (headerAt h m (suc k))
 unfolding headerAt
-continues-at h n j k = record { device = refl; system = refl; w = refl; stream = refl; function = refl; number = refl }
+continues-at h m k n = record { device = refl; system = refl; w = refl; stream = refl; function = refl; number = sym (add-one k) }
 
 in-range-at : (h : Header) (n k : ℕ) → InRange h → k < 32768 → InRange (headerAt h n k)
 unfolding headerAt
@@ -51,9 +59,9 @@ pub one-more : (h : Header) (d : List ℕ) (k : ℕ) → length (joined h d (suc
 unfolding joined
 one-more h d k = length-append (joined h d k) (dataIn h d (suc k))
 
-module _ (h : Header) (d : List ℕ) (i : InRange h) (short : length d ≤ 4096) where
-  few : blockCount (length d) ≤ 17
-  few = let w = count-is-fewest (length d) in omega arith
+module _ (h : Header) (d : List ℕ) (i : InRange h) (short : length d ≤ messageLimit) where
+  few : blockCount (length d) ≤ mostBlocks
+  few = most-blocks .1 (length d) short
 
   -- what a block's header bytes say
   pub said : (k : ℕ) → k ≤ blockCount (length d) → headerOf (headerIn h d k) ≡ headerAt h (length d) k
@@ -78,7 +86,7 @@ module _ (h : Header) (d : List ℕ) (i : InRange h) (short : length d ≤ 4096)
   so-far k most = ap length (joined-front h d k most (omega (arith, few))) ∙ length-take (k * 244) d
 
   -- never more than the message
-  pub fits : (k : ℕ) → k ≤ blockCount (length d) → length (joined h d k) ≤ 4096
+  pub fits : (k : ℕ) → k ≤ blockCount (length d) → length (joined h d k) ≤ messageLimit
   fits k most = omega (arith, so-far k most)
 
   -- a block has data where it must

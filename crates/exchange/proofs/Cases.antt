@@ -9,21 +9,25 @@ use Rattle.header.specs.declared.header.Header.{Header}
 use Rattle.settings.specs.declared.terms.Terms.{Terms}
 use Rattle.wire.proofs.Choice.{chosen}
 use Rattle.place.specs.Fate.{beginsPrimary, fateOf}
-use Rattle.place.specs.Incoming.{primaryOf, incomingIsReplied}
+use Rattle.place.specs.Own.{ownHasVerdict, ownReleased}
+use Rattle.place.specs.Incoming.{primaryOf, incomingIsReplied, incomingReleased}
 use Rattle.place.specs.declared.Fate.{Fate}
 use Rattle.place.specs.declared.Fate.the-variants as fate
 use Rattle.table.specs.Own.{freeOwn, replyFor}
 use Rattle.table.specs.Incoming.{freeIncoming, messageFor, openAlike}
 use Rattle.table.specs.declared.Found.{Found}
 use Rattle.table.specs.declared.Found.the-variants.{At, Nowhere}
-use Rattle.exchange.specs.Exchange.{incomingPlace, savedNow}
+use Rattle.exchange.specs.Exchange.{ownPlace, incomingPlace, putOwn, putIncoming, savedNow}
 use Rattle.exchange.specs.Judge.{Judging, thrown, isMisrouted, isDuplicate, lastBy, spoiltBy, replyBlock, messageBlock, beginsAt, inFree, inPlace, takesPlace, primaryBy, primaryBlock, orPrimary, ofMessage, noReplyBlock, ofReply, newBlock, judgeOf}
-use Rattle.exchange.specs.Request.{Asking, badPrimary, badFunction, dataLong, isSending, notReady, refused, openBy, openFree, openOf, replyAccepted, replyReady, replyOf}
+use Rattle.exchange.specs.Request.{Requesting, requesting, badPrimary, badFunction, dataLong, isSending, notReady, refused, openBy, openFree, openOf, replyAccepted, replyReady, replyOf, releaseOwn, releaseIncoming, Request, answerOf}
+use Rattle.exchange.specs.Request as request
 use Rattle.exchange.specs.declared.Note.{Note}
 use Rattle.exchange.specs.declared.Note.the-variants.{Misrouted, Duplicate, Stray, NoPlace, TooLong, Empty}
 use Rattle.exchange.specs.declared.Exchange.{Exchange}
 use Rattle.exchange.specs.declared.Refusal.{Refusal}
+use Rattle.exchange.specs.declared.Asked.the-variants.{Taken}
 use Rattle.exchange.specs.declared.Primary.{Primary}
+use Rattle.exchange.specs.declared.Requested.{Requested}
 
 -- what was found
 pub by-found : (f : Found) (P : Found → Type 0) → ((p : ℕ) → f ≡ At p → P (At p)) → (f ≡ Nowhere → P Nowhere) → P f
@@ -140,24 +144,68 @@ module _ (c : Terms) (x : Exchange) (h d room : List ℕ) (J : Judging → Type 
 
 -- ---- the requests
 
-module _ (x : Exchange) (d room : List ℕ) (R : Asking → Type 0) (refuse : (r : Refusal) → R (refused x r room)) where
+-- neither 6 nor 7 refuses a message of this data
+pub record Sendable (x : Exchange) (d : List ℕ) : Type 0 where
+  pub fits : dataLong (length d) ≡ false
+  pub idle : isSending x ≡ false
+
+-- what an accepted release leaves
+abbrev pub ownFreed : Exchange → ℕ → Requested
+ownFreed x p = record { exchange = putOwn x p (ownReleased (ownPlace x p)); asked = Taken p }
+
+abbrev pub incomingFreed : Exchange → ℕ → Requested
+incomingFreed x p = record { exchange = putIncoming x p (incomingReleased (incomingPlace x p)); asked = Taken p }
+
+module _ (x : Exchange) (room : List ℕ) (R : Requesting → Type 0) (refuse : (n : Refusal) → R (refused x n room)) where
   -- a primary takes the free place that is found
-  pub by-open : (c : Terms) (q : Primary) → ((p : ℕ) → dataLong (length d) ≡ false → freeOwn (x .own) ≡ At p → R (openBy (At p) c x q d room)) → R (openOf c x q d room)
+  pub by-open : (c : Terms) (q : Primary) (d : List ℕ) → ((p : ℕ) → Sendable x d → freeOwn (x .own) ≡ At p → R (openBy (At p) c x q d room)) → R (openOf c x q d room)
   unfolding openOf openFree
-  by-open c q take =
+  by-open c q d take =
       chosen R (badPrimary q) _ _ (λ e. refuse _)
       (λ e. chosen R (dataLong (length d)) _ _ (λ l. refuse _)
       (λ l. chosen R (isSending x) _ _ (λ u. refuse _)
-      (λ u. by-found (freeOwn (x .own)) (λ f. R (openBy f c x q d room)) (λ p a. take p l a) (λ a. refuse _))))
+      (λ u. by-found (freeOwn (x .own)) (λ f. R (openBy f c x q d room)) (λ p a. take p (record { fits = l; idle = u }) a) (λ a. refuse _))))
 
-  -- a reply is to a message that is complete
-  pub by-reply : (p f : ℕ) → (notReady (incomingPlace x p) ≡ false → dataLong (length d) ≡ false → R (replyAccepted x p f d room)) → R (replyOf x p f d room)
+  -- a reply is to a message that is complete, and the first to it
+  pub by-reply : (p f : ℕ) (d : List ℕ)
+      → (Sendable x d → notReady (incomingPlace x p) ≡ false → incomingIsReplied (incomingPlace x p) ≡ false → R (replyAccepted x p f d room)) → R (replyOf x p f d room)
   unfolding replyOf replyReady
-  by-reply p f accept =
+  by-reply p f d accept =
       let i = incomingPlace x p in
       chosen R (notReady i) _ _ (λ e. refuse _)
       (λ a. chosen R (not (primaryOf i .w)) _ _ (λ e. refuse _)
       (λ e. chosen R (incomingIsReplied i) _ _ (λ e. refuse _)
-      (λ e. chosen R (badFunction (primaryOf i) f) _ _ (λ e. refuse _)
+      (λ b. chosen R (badFunction (primaryOf i) f) _ _ (λ e. refuse _)
       (λ e. chosen R (dataLong (length d)) _ _ (λ l. refuse _)
-      (λ l. chosen R (isSending x) _ _ (λ u. refuse _) (λ u. accept a l))))))
+      (λ l. chosen R (isSending x) _ _ (λ u. refuse _) (λ u. accept (record { fits = l; idle = u }) a b))))))
+
+  -- a release is of a place with a verdict, or of a message that is complete and whose reply is not on its way
+  pub by-free-own : (p : ℕ) → (ownHasVerdict (ownPlace x p) ≡ true → R (requesting (ownFreed x p) room)) → R (requesting (releaseOwn x p) room)
+  unfolding releaseOwn refused
+  by-free-own p free = chosen (λ (a : Requested). R (requesting a room)) (ownHasVerdict (ownPlace x p)) _ _ free (λ e. refuse _)
+
+  pub by-free-incoming : (p : ℕ) → (notReady (incomingPlace x p) ≡ false → R (requesting (incomingFreed x p) room)) → R (requesting (releaseIncoming x p) room)
+  unfolding releaseIncoming refused
+  by-free-incoming p free = chosen (λ (a : Requested). R (requesting a room)) (notReady (incomingPlace x p)) _ _ (λ e. refuse _) free
+
+-- any request: it is refused, or accepted as one of four kinds
+module _ (c : Terms) (x : Exchange) (room : List ℕ) (R : Request → Requesting → Type 0) where
+  abbrev pub Opens : Type 0
+  Opens = (q : Primary) (d : List ℕ) (p : ℕ) → Sendable x d → freeOwn (x .own) ≡ At p → R (request.primary q d) (openBy (At p) c x q d room)
+
+  abbrev pub Replies : Type 0
+  Replies =
+      (p f : ℕ) (d : List ℕ) → Sendable x d → notReady (incomingPlace x p) ≡ false → incomingIsReplied (incomingPlace x p) ≡ false
+      → R (request.reply p f d) (replyAccepted x p f d room)
+
+  abbrev pub FreesOwn : Type 0
+  FreesOwn = (p : ℕ) → ownHasVerdict (ownPlace x p) ≡ true → R (request.free-own p) (requesting (ownFreed x p) room)
+
+  abbrev pub FreesIncoming : Type 0
+  FreesIncoming = (p : ℕ) → notReady (incomingPlace x p) ≡ false → R (request.free-incoming p) (requesting (incomingFreed x p) room)
+
+  pub by-request : ((r : Request) (n : Refusal) → R r (refused x n room)) → Opens → Replies → FreesOwn → FreesIncoming → (r : Request) → R r (answerOf c x r room)
+  by-request refuse opens replies own incoming (request.primary q d) = by-open x room (R (request.primary q d)) (refuse (request.primary q d)) c q d (opens q d)
+  by-request refuse opens replies own incoming (request.reply p f d) = by-reply x room (R (request.reply p f d)) (refuse (request.reply p f d)) p f d (replies p f d)
+  by-request refuse opens replies own incoming (request.free-own p) = by-free-own x room (R (request.free-own p)) (refuse (request.free-own p)) p (own p)
+  by-request refuse opens replies own incoming (request.free-incoming p) = by-free-incoming x room (R (request.free-incoming p)) (refuse (request.free-incoming p)) p (incoming p)

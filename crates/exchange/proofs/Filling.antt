@@ -6,6 +6,7 @@ use mathlib.Core.List.{List, [], _∷_, _++_}
 use native.Mathlib.Omega.{arith}
 use lib.ListN.{length, length-append}
 use borrow.Author.Tests.{ltb-false}
+use Rattle.wire.specs.Message.{messageLimit}
 use Rattle.room.specs.Room.{placeOf, keptIn, front}
 use Rattle.room.proofs.Keeping.{keep-joins, keep-elsewhere, keeps-only}
 use Rattle.room.proofs.Reading.{front-length}
@@ -16,7 +17,7 @@ use Rattle.exchange.specs.Theorems.{StartsWith}
 -- the area begins with bs, which are no more than it holds
 pub record Fills (room : List ℕ) (m : Message) (n : ℕ) (bs : List ℕ) : Type 0 where
   pub begins : StartsWith room m n bs
-  pub few : n ≤ 4096
+  pub few : n ≤ messageLimit
 
 -- the room is written, if at all, in the area of m alone
 pub record Spares (room after : List ℕ) (m : Message) : Type 0 where
@@ -46,7 +47,7 @@ fills-none room m w k =
     record { begins = record { size = refl; bytes = no-bytes (front room m 0) (front-length room m 0 w k (omega arith)) }; few = omega arith }
 
 -- data kept behind what there is
-pub fills-more : (room : List ℕ) (m : Message) (n : ℕ) (bs d : List ℕ) → length room ≡ 36864 → placeOf m < 4 → n + length d ≤ 4096
+pub fills-more : (room : List ℕ) (m : Message) (n : ℕ) (bs d : List ℕ) → length room ≡ 36864 → placeOf m < 4 → n + length d ≤ messageLimit
     → Fills room m n bs → Fills (keptIn room m n d) m (n + length d) (bs ++ d)
 fills-more room m n bs d w k fits f =
     record {
@@ -58,13 +59,13 @@ fills-more room m n bs d w k fits f =
     }
 
 -- data kept from the start on
-pub fills-first : (room : List ℕ) (m : Message) (d : List ℕ) → length room ≡ 36864 → placeOf m < 4 → length d ≤ 4096
+pub fills-first : (room : List ℕ) (m : Message) (d : List ℕ) → length room ≡ 36864 → placeOf m < 4 → length d ≤ messageLimit
     → Fills (keptIn room m 0 d) m (length d) d
 fills-first room m d w k fits =
     let z : 0 + length d ≡ length d = omega arith in
     subst (λ n. Fills (keptIn room m 0 d) m n d) z (fills-more room m 0 [] d w k (omega arith) (fills-none room m w k))
 
 -- data that is not refused by 6 fits an area
-pub fits-area : (d : List ℕ) → dataLong (length d) ≡ false → length d ≤ 4096
+pub fits-area : (d : List ℕ) → dataLong (length d) ≡ false → length d ≤ messageLimit
 unfolding dataLong
-fits-area d e = ltb-false 4096 (length d) e
+fits-area d e = ltb-false messageLimit (length d) e

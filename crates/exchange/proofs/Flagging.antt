@@ -37,7 +37,7 @@ not-completed i = stays (incomingIsComplete i)
 -- no message is dropped in a place that stays as it is
 not-dropped : (h : Header) (s : IncomingStage) → Dropped (record { header = h; stage = s }) (record { header = h; stage = s }) → ⊥
 not-dropped h arrival.Free d = false≢true (d .was-open)
-not-dropped h (arrival.Open timer next n) d = false≢true (d .is-free)
+not-dropped h (arrival.Open a) d = false≢true (d .is-free)
 not-dropped h (arrival.Complete n) d = false≢true (d .was-open)
 not-dropped h (arrival.Replying n) d = false≢true (d .was-open)
 not-dropped h (arrival.Replied n e) d = false≢true (d .was-open)

@@ -5,6 +5,7 @@ use mathlib.Core.List.{List, _++_}
 use native.Mathlib.Omega.{arith}
 use lib.ListN.{length}
 use Rattle.wire.specs.Bytes.{part}
+use Rattle.wire.specs.Message.{messageLimit}
 use Rattle.header.specs.Header.{InRange}
 use Rattle.header.specs.declared.header.Header.{Header}
 use Rattle.cut.specs.Blocks.{blockCount}
@@ -27,7 +28,7 @@ unfolding front part joined
 none-yet room m h d = let z : startOf m + 0 - startOf m ≡ 0 = omega arith in rw z
 
 module _ (room : List ℕ) (whole : length room ≡ 36864) (m : Message) (place : placeOf m < 4)
-    (h : Header) (d : List ℕ) (i : InRange h) (short : length d ≤ 4096) where
+    (h : Header) (d : List ℕ) (i : InRange h) (short : length d ≤ messageLimit) where
   -- the room keeps its size
   size : (k : ℕ) → length (filling room m h d k) ≡ 36864
   unfolding filling

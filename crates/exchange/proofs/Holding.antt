@@ -9,6 +9,7 @@ use Rattle.wire.proofs.Choice.{chosen}
 use Rattle.header.specs.declared.header.Header.{Header}
 use Rattle.settings.specs.declared.terms.Terms.{Terms}
 use Rattle.settings.proofs.Timers.{by-timer}
+use Rattle.place.proofs.Arrivals.{by-waited}
 use Rattle.room.specs.declared.Message.{Message}
 use Rattle.room.specs.declared.Message.the-variants as message
 use Rattle.place.specs.Own.{ended, primaryOf, keptAt, standingAt, freeBy, awaitedBy, replyingBy, ownTick, awaitTick, replyTick, acknowledged, ownSent, ownFailed, ownClaimed, ownTakes, ownReleased}
@@ -32,13 +33,13 @@ abbrev pub OwnHolds : List ℕ → ℕ → OwnStage → List ℕ → Type 0
 OwnHolds room p stage.Free bs = Unit {0}
 OwnHolds room p stage.Sending bs = bs ≡ []
 OwnHolds room p (stage.Awaiting timer) bs = bs ≡ []
-OwnHolds room p (stage.Replying timer next r) bs = Fills room (message.Reply p) (r .length) bs
+OwnHolds room p (stage.Replying a) bs = Fills room (message.Reply p) (a .length) bs
 OwnHolds room p (stage.Done v r) bs = byVerdict v ≡ true → Fills room (message.Reply p) (r .length) bs
 
 -- at each stage of incoming place p
 abbrev pub IncomingHolds : List ℕ → ℕ → IncomingStage → List ℕ → Type 0
 IncomingHolds room p arrival.Free bs = Unit {0}
-IncomingHolds room p (arrival.Open timer next n) bs = Fills room (message.Incoming p) n bs
+IncomingHolds room p (arrival.Open a) bs = Fills room (message.Incoming p) (a .length) bs
 IncomingHolds room p (arrival.Complete n) bs = Fills room (message.Incoming p) n bs
 IncomingHolds room p (arrival.Replying n) bs = Fills room (message.Incoming p) n bs
 IncomingHolds room p (arrival.Replied n e) bs = Fills room (message.Incoming p) n bs
@@ -56,12 +57,12 @@ module _ (room after : List ℕ) (m : Message) (s : Spares room after m) where
   own-spared p k ne stage.Free bs h = tt
   own-spared p k ne stage.Sending bs h = h
   own-spared p k ne (stage.Awaiting timer) bs h = h
-  own-spared p k ne (stage.Replying timer next r) bs h = s .others (message.Reply p) (r .length) bs ne k h
+  own-spared p k ne (stage.Replying a) bs h = s .others (message.Reply p) (a .length) bs ne k h
   own-spared p k ne (stage.Done v r) bs h = λ e. s .others (message.Reply p) (r .length) bs ne k (h e)
 
   pub incoming-spared : (p : ℕ) → p < 4 → (m ≡ message.Incoming p → ⊥) → (i : IncomingStage) (bs : List ℕ) → IncomingHolds room p i bs → IncomingHolds after p i bs
   incoming-spared p k ne arrival.Free bs h = tt
-  incoming-spared p k ne (arrival.Open timer next n) bs h = s .others (message.Incoming p) n bs ne k h
+  incoming-spared p k ne (arrival.Open a) bs h = s .others (message.Incoming p) (a .length) bs ne k h
   incoming-spared p k ne (arrival.Complete n) bs h = s .others (message.Incoming p) n bs ne k h
   incoming-spared p k ne (arrival.Replying n) bs h = s .others (message.Incoming p) n bs ne k h
   incoming-spared p k ne (arrival.Replied n e) bs h = s .others (message.Incoming p) n bs ne k h
@@ -84,8 +85,8 @@ module _ (room : List ℕ) (p : ℕ) (bs : List ℕ) where
   own-ticked c h stage.Sending w = w
   own-ticked c h (stage.Awaiting timer) w =
       by-timer (c .t3) timer (λ t. OwnHolds room p (awaitedBy (mk h (stage.Awaiting timer)) t .stage) bs) (λ _. λ e. absurd (false≢true e)) (λ _. w)
-  own-ticked c h (stage.Replying timer next r) w =
-      by-timer (c .t4) timer (λ t. OwnHolds room p (replyingBy (mk h (stage.Replying timer next r)) next r t .stage) bs) (λ _. λ e. absurd (false≢true e)) (λ _. w)
+  own-ticked c h (stage.Replying a) w =
+      by-waited c a (λ t. OwnHolds room p (replyingBy (mk h (stage.Replying a)) t .stage) bs) (λ e. absurd (false≢true e)) (λ _. w)
   own-ticked c h (stage.Done v r) w = w
 
   pub own-sent : (h : List ℕ) (s : OwnStage) → OwnHolds room p s bs → OwnHolds room p (ownSent (mk h s) .stage) bs
@@ -94,7 +95,7 @@ module _ (room : List ℕ) (p : ℕ) (bs : List ℕ) where
   own-sent h stage.Sending w =
       chosen (λ (o : Own). OwnHolds room p (o .stage) bs) (primaryOf (mk h stage.Sending) .w) _ _ (λ _. w) (λ _. λ e. absurd (false≢true e))
   own-sent h (stage.Awaiting timer) w = w
-  own-sent h (stage.Replying timer next r) w = w
+  own-sent h (stage.Replying a) w = w
   own-sent h (stage.Done v r) w = w
 
   pub own-failed : (h : List ℕ) (s : OwnStage) → OwnHolds room p s bs → OwnHolds room p (ownFailed (mk h s) .stage) bs
@@ -102,14 +103,14 @@ module _ (room : List ℕ) (p : ℕ) (bs : List ℕ) where
   own-failed h stage.Free w = tt
   own-failed h stage.Sending w = λ e. absurd (false≢true e)
   own-failed h (stage.Awaiting timer) w = w
-  own-failed h (stage.Replying timer next r) w = w
+  own-failed h (stage.Replying a) w = w
   own-failed h (stage.Done v r) w = w
 
   pub own-released : (h : List ℕ) (s : OwnStage) → OwnHolds room p s bs → OwnHolds room p (ownReleased (mk h s) .stage) bs
   own-released h stage.Free w = tt
   own-released h stage.Sending w = w
   own-released h (stage.Awaiting timer) w = w
-  own-released h (stage.Replying timer next r) w = w
+  own-released h (stage.Replying a) w = w
   own-released h (stage.Done v r) w = tt
 
   -- what a place that takes a block has of its reply
@@ -118,7 +119,7 @@ module _ (room : List ℕ) (p : ℕ) (bs : List ℕ) where
   own-has w k b h stage.Free t g = absurd (false≢true t)
   own-has w k b h stage.Sending t g = absurd (false≢true t)
   own-has w k b h (stage.Awaiting timer) t g = subst (λ l. Fills room (message.Reply p) 0 l) (sym g) (fills-none room (message.Reply p) w k)
-  own-has w k b h (stage.Replying timer next r) t g = g
+  own-has w k b h (stage.Replying a) t g = g
   own-has w k b h (stage.Done v r) t g = absurd (false≢true t)
 
 -- a free place takes a primary
@@ -126,7 +127,7 @@ pub own-claimed : (room : List ℕ) (p : ℕ) (h : List ℕ) (s : OwnStage) (new
 own-claimed room p h stage.Free new e = refl
 own-claimed room p h stage.Sending new e = absurd (false≢true e)
 own-claimed room p h (stage.Awaiting timer) new e = absurd (false≢true e)
-own-claimed room p h (stage.Replying timer next r) new e = absurd (false≢true e)
+own-claimed room p h (stage.Replying a) new e = absurd (false≢true e)
 own-claimed room p h (stage.Done v r) new e = absurd (false≢true e)
 
 -- ---- events at an incoming place
@@ -139,29 +140,29 @@ module _ (room : List ℕ) (p : ℕ) (bs : List ℕ) where
   pub incoming-ticked : (c : Terms) (h : Header) (s : IncomingStage) → IncomingHolds room p s bs → IncomingHolds room p (incomingTick c (mkIn h s) .stage) bs
   unfolding openTick
   incoming-ticked c h arrival.Free w = tt
-  incoming-ticked c h (arrival.Open timer next n) w =
-      by-timer (c .t4) timer (λ t. IncomingHolds room p (openBy (mkIn h (arrival.Open timer next n)) next n t .stage) bs) (λ _. tt) (λ _. w)
+  incoming-ticked c h (arrival.Open a) w =
+      by-waited c a (λ t. IncomingHolds room p (openBy (mkIn h (arrival.Open a)) t .stage) bs) tt (λ _. w)
   incoming-ticked c h (arrival.Complete n) w = w
   incoming-ticked c h (arrival.Replying n) w = w
   incoming-ticked c h (arrival.Replied n e) w = w
 
   pub incoming-answered : (h : Header) (s : IncomingStage) → IncomingHolds room p s bs → IncomingHolds room p (incomingAnswered (mkIn h s) .stage) bs
   incoming-answered h arrival.Free w = tt
-  incoming-answered h (arrival.Open timer next n) w = w
+  incoming-answered h (arrival.Open a) w = w
   incoming-answered h (arrival.Complete n) w = w
   incoming-answered h (arrival.Replying n) w = w
   incoming-answered h (arrival.Replied n e) w = w
 
   pub incoming-ended : (z : End) (h : Header) (s : IncomingStage) → IncomingHolds room p s bs → IncomingHolds room p (endedAt z s (mkIn h s) .stage) bs
   incoming-ended z h arrival.Free w = tt
-  incoming-ended z h (arrival.Open timer next n) w = w
+  incoming-ended z h (arrival.Open a) w = w
   incoming-ended z h (arrival.Complete n) w = w
   incoming-ended z h (arrival.Replying n) w = w
   incoming-ended z h (arrival.Replied n e) w = w
 
   pub incoming-released : (h : Header) (s : IncomingStage) → IncomingHolds room p s bs → IncomingHolds room p (incomingReleased (mkIn h s) .stage) bs
   incoming-released h arrival.Free w = tt
-  incoming-released h (arrival.Open timer next n) w = w
+  incoming-released h (arrival.Open a) w = w
   incoming-released h (arrival.Complete n) w = tt
   incoming-released h (arrival.Replying n) w = w
   incoming-released h (arrival.Replied n e) w = tt
@@ -170,7 +171,7 @@ module _ (room : List ℕ) (p : ℕ) (bs : List ℕ) where
   pub incoming-has : (b : Header) (h : Header) (s : IncomingStage) → incomingTakes (mkIn h s) b ≡ true → IncomingHolds room p s bs
       → Fills room (message.Incoming p) (lengthAt s) bs
   incoming-has b h arrival.Free t g = absurd (false≢true t)
-  incoming-has b h (arrival.Open timer next n) t g = g
+  incoming-has b h (arrival.Open a) t g = g
   incoming-has b h (arrival.Complete n) t g = absurd (false≢true t)
   incoming-has b h (arrival.Replying n) t g = absurd (false≢true t)
   incoming-has b h (arrival.Replied n e) t g = absurd (false≢true t)

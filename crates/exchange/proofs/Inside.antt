@@ -2,14 +2,14 @@
 use Prim.Native.Nat.{ℕ, _≤_, _<_}
 use mathlib.Core.Path.{_≡_, refl, sym, ap, _∙_, subst}
 use mathlib.Core.Bool.{true, false, false≢true}
-use mathlib.Core.List.{List, [], _∷_}
+use mathlib.Core.List.{List}
 use native.Mathlib.Omega.{arith}
 use lib.Dec.{ltb}
 use lib.ListN.{length, List·getD-eq-default}
 use borrow.Author.Tests.{ltb-true, ltb-false, le-leb}
-use Rattle.wire.proofs.Choice.{either, chosen}
+use Rattle.wire.specs.Message.{messageLimit}
+use Rattle.wire.proofs.Choice.{either}
 use Rattle.settings.specs.declared.terms.Terms.{Terms}
-use Rattle.place.specs.Own.{ownHasVerdict}
 use Rattle.place.specs.Incoming.{freshIncoming}
 use Rattle.place.proofs.OwnRanges.{own-reached-in-range}
 use Rattle.place.proofs.Completing.{incoming-reached-in-range}
@@ -18,22 +18,17 @@ use Rattle.place.specs.declared.Own.{Own}
 use Rattle.place.specs.declared.Incoming.{Incoming}
 use Rattle.table.proofs.Finding.{free-own-lowest}
 use Rattle.exchange.specs.Exchange.{ownPlace, incomingPlace, putOwn, putIncoming, withSending}
-use Rattle.exchange.specs.Tick.{tickOf}
-use Rattle.exchange.specs.Send.{endedOwn, endedReply, sentBy, failedBy}
-use Rattle.exchange.specs.Request.{notReady, refusedBy, refused, claimedAt, openOf, replyAccepted, replyOf, releaseOwn, releaseIncoming}
+use Rattle.exchange.specs.Request.{notReady, refusedBy, refused, claimedAt, replyAccepted, Request, answerOf}
+use Rattle.exchange.specs.Rules.{Fours}
 use Rattle.exchange.specs.Range.{ownsInRange, incomingsInRange, messageInRange, sendingInRange, exchangeInRange}
-use Rattle.exchange.specs.History.{Call, block, tick, acknowledged, failed, primary, reply, free-own, free-incoming, Track, next, track, atStart}
+use Rattle.exchange.specs.History.{Call, block, tick, acknowledged, failed, request, called, Track}
 use Rattle.exchange.specs.Theorems.{OwnInside, IncomingInside, PlacesInside, ExchangeReachedInRange}
-use Rattle.exchange.proofs.Cases.{by-open, by-reply}
+use Rattle.exchange.proofs.Cases.{by-request}
 use Rattle.exchange.proofs.Filling.{fits-area}
-use Rattle.exchange.proofs.Leaving.{judge-leaves}
-use Rattle.exchange.proofs.Areas.{GoodTrack, one-call, fresh-good}
+use Rattle.exchange.proofs.BeingSent.{sending-ends}
+use Rattle.exchange.proofs.Runs.{four-places, run-reached}
 use Rattle.exchange.proofs.Watching.{own-watched, incoming-watched}
-use Rattle.exchange.specs.declared.Sending.{Sending}
-use Rattle.exchange.specs.declared.Sending.the-variants as sending
 use Rattle.exchange.specs.declared.Exchange.{Exchange}
-use Rattle.exchange.specs.declared.Primary.{Primary}
-use Rattle.exchange.specs.declared.Requested.{Requested}
 
 -- as the onlooker of each place tells
 pub places-inside : PlacesInside
@@ -45,9 +40,9 @@ places-inside c t w = record {
 -- ---- the message being sent
 
 -- a message of one of four places that the send area holds
-in-range : (p n : ℕ) → p < 4 → n ≤ 4096 → messageInRange p n ≡ true
+in-range : (p n : ℕ) → p < 4 → n ≤ messageLimit → messageInRange p n ≡ true
 unfolding messageInRange
-in-range p n k fits = simp (le-leb p 3 (omega arith), le-leb n 4096 fits)
+in-range p n k fits = simp (le-leb p 3 (omega arith), le-leb n messageLimit fits)
 
 -- the message in a place outside the table is not complete
 ready-place : (x : Exchange) → length (x .incoming) ≡ 4 → (p : ℕ) → notReady (incomingPlace x p) ≡ false → p < 4
@@ -58,58 +53,23 @@ ready-place x four p e =
     let out : length (x .incoming) ≤ p = omega (arith, ltb-false p 4 k) in
     absurd (false≢true (sym (rw (List·getD-eq-default (x .incoming) freshIncoming out) at e))))
 
-module _ (x : Exchange) (g : sendingInRange (x .sending) ≡ true) where
-  abbrev After : Exchange → Type 0
-  After y = sendingInRange (y .sending) ≡ true
+abbrev Ranged : Exchange → Type 0
+Ranged x = sendingInRange (x .sending) ≡ true
 
-  sent-ranged : (q : Sending) → After (sentBy q x .exchange)
-  unfolding endedOwn endedReply withSending
-  sent-ranged sending.Nothing = g
-  sent-ranged (sending.Primary p n) = refl
-  sent-ranged (sending.Reply p f n) = refl
+module _ (c : Terms) (x : Exchange) (room : List ℕ) (four : Fours x) (g : Ranged x) where
+  request-ranged : (r : Request) → Ranged (answerOf c x r room .answer .exchange)
+  unfolding refused refusedBy claimedAt replyAccepted withSending putOwn putIncoming
+  request-ranged =
+      by-request c x room (λ r a. Ranged (a .answer .exchange)) (λ r n. g)
+      (λ q d p u e. in-range p (length d) (free-own-lowest (x .own) (four .own) .at p .0 e .0) (fits-area d (u .fits)))
+      (λ p f d u a b. in-range p (length d) (ready-place x (four .incoming) p a) (fits-area d (u .fits))) (λ p e. g) (λ p e. g)
 
-  failed-ranged : (q : Sending) → After (failedBy q x .exchange)
-  unfolding endedOwn endedReply withSending
-  failed-ranged sending.Nothing = g
-  failed-ranged (sending.Primary p n) = refl
-  failed-ranged (sending.Reply p f n) = refl
-
-  primary-ranged : (c : Terms) → length (x .own) ≡ 4 → (q : Primary) (d room : List ℕ) → After (openOf c x q d room .answer .exchange)
-  unfolding refused refusedBy claimedAt
-  primary-ranged c four q d room =
-      by-open x d room (λ a. After (a .answer .exchange)) (λ r. g) c q
-      (λ p l e. in-range p (length d) (free-own-lowest (x .own) four .at p .0 e .0) (fits-area d l))
-
-  reply-ranged : length (x .incoming) ≡ 4 → (p f : ℕ) (d room : List ℕ) → After (replyOf x p f d room .answer .exchange)
-  unfolding refused refusedBy replyAccepted withSending
-  reply-ranged four p f d room =
-      by-reply x d room (λ a. After (a .answer .exchange)) (λ r. g) p f
-      (λ e l. in-range p (length d) (ready-place x four p e) (fits-area d l))
-
-  freed-ranged : (p : ℕ) → After (releaseOwn x p .exchange) × After (releaseIncoming x p .exchange)
-  unfolding releaseOwn releaseIncoming refusedBy putOwn putIncoming
-  freed-ranged p =
-      let Released : Requested → Type 0 = λ a. After (a .exchange) in
-      (chosen Released (ownHasVerdict (ownPlace x p)) _ _ (λ e. g) (λ e. g), chosen Released (notReady (incomingPlace x p)) _ _ (λ e. g) (λ e. g))
-
-abbrev Ranged : Track → Type 0
-Ranged t = sendingInRange (t .exchange .sending) ≡ true
-
-one-more : (c : Terms) (t : Track) (k : Call) → GoodTrack t → Ranged t → Ranged (next c t k)
-unfolding tickOf
-one-more c t (block h d) a g = ap sendingInRange (judge-leaves c (t .exchange) h d (t .room) .sending) ∙ g
-one-more c t tick a g = g
-one-more c t acknowledged a g = sent-ranged (t .exchange) g (t .exchange .sending)
-one-more c t failed a g = failed-ranged (t .exchange) g (t .exchange .sending)
-one-more c t (primary q d) a g = primary-ranged (t .exchange) g c (a .own-four) q d (t .room)
-one-more c t (reply p f d) a g = reply-ranged (t .exchange) g (a .incoming-four) p f d (t .room)
-one-more c t (free-own p) a g = freed-ranged (t .exchange) g p .0
-one-more c t (free-incoming p) a g = freed-ranged (t .exchange) g p .1
-
-all-calls : (c : Terms) (t : Track) (ks : List Call) → GoodTrack t → Ranged t → Ranged (track c t ks)
-unfolding track
-all-calls c t [] a g = g
-all-calls c t (k ∷ ks) a g = all-calls c (next c t k) ks (one-call c t k a) (one-more c t k a g)
+  one-ranged : (k : Call) → Ranged (called c x room k .exchange)
+  one-ranged (block h d) = ap sendingInRange (sending-ends c x .judged h d room) ∙ g
+  one-ranged tick = ap sendingInRange (sending-ends c x .ticked) ∙ g
+  one-ranged acknowledged = ap sendingInRange (sending-ends c x .acknowledged)
+  one-ranged failed = ap sendingInRange (sending-ends c x .failed)
+  one-ranged (request r) = request-ranged r
 
 -- ---- ranges
 
@@ -126,5 +86,5 @@ exchange-reached-in-range c a b t w =
     let x = t .exchange in
     let own : (p : ℕ) → p < 4 → ownInRange (ownPlace x p) ≡ true = λ p k. own-ranged c a b (ownPlace x p) (g .own p k) in
     let in' : (p : ℕ) → p < 4 → incomingInRange (incomingPlace x p) ≡ true = λ p k. incoming-ranged c b (incomingPlace x p) (g .incoming p k) in
-    let sent = subst Ranged (w .so) (all-calls c (atStart (w .last) (w .room)) (w .calls) (fresh-good (w .last) (w .room) (w .whole)) refl) in
+    let sent = run-reached c Ranged (λ x room k z g. one-ranged c x room (four-places x z) g k) (λ last. refl) t w in
     simp (own 0 (omega arith), own 1 (omega arith), own 2 (omega arith), own 3 (omega arith), in' 0 (omega arith), in' 1 (omega arith), in' 2 (omega arith), in' 3 (omega arith), sent)

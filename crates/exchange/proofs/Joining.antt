@@ -143,7 +143,7 @@ pub offered-replied : (o : Own) (b : Header) (n : ℕ) → ownTakes o b ≡ true
 unfolding ownOffered replied
 offered-replied o b n t = rw t
 
-pub offered-kept : (i : Incoming) (b : Header) (n : ℕ) → incomingTakes i b ≡ true → incomingOffered i b n ≡ keptBy i (b .number) (fateOf b (incomingLength i) n)
+pub offered-kept : (i : Incoming) (b : Header) (n : ℕ) → incomingTakes i b ≡ true → incomingOffered i b n ≡ keptBy i b (fateOf b (incomingLength i) n)
 unfolding incomingOffered goesOn
 offered-kept i b n t = rw t
 
@@ -194,7 +194,7 @@ module _ (x : Exchange) (room : List ℕ) (s : Joined) (g : Good x room s) (p : 
 
   abbrev Continued : Fate → Type 0
   Continued f =
-      Good (putIncoming x p (keptBy (incomingPlace x p) (b .number) f)) (keepBy f room (message.Incoming p) (incomingLength (incomingPlace x p)) d)
+      Good (putIncoming x p (keptBy (incomingPlace x p) b f)) (keepBy f room (message.Incoming p) (incomingLength (incomingPlace x p)) d)
       (ifKept (noteBy f) s (messageJoined x room s g p (incomingLength (incomingPlace x p)) d (s .messages p ++ d)))
 
   pub message-joined : incomingTakes (incomingPlace x p) b ≡ true → Continued (fateOf b (incomingLength (incomingPlace x p)) (length d))

@@ -6,6 +6,7 @@ use mathlib.Core.List.{List}
 use mathlib.Core.Logic.{_↔_, _⊎_, Iff·rfl}
 use lib.Dec.{eqb}
 use borrow.Author.Tests.{eqb-true, eq-eqb, ltb-true, lt-ltb}
+use Rattle.wire.specs.Message.{messageLimit}
 use Rattle.wire.proofs.Choice.{both, same-bits, either-of}
 use Rattle.header.specs.declared.header.Header.{Header}
 use Rattle.settings.specs.declared.terms.Terms.{Terms}
@@ -65,14 +66,14 @@ takes-reply (own.Awaiting timer) o b e t =
     let w = both _ _ .0 t in
     let v = reply-exactly b .0 (w .1) in
     first timer e (sym (eqb-true _ _ (w .0))) (v .0) (v .1)
-takes-reply (own.Replying timer next r) o b e t = further timer next r e (continues-exactly _ _ _ .0 t)
+takes-reply (own.Replying a) o b e t = further a e (continues-exactly _ _ a b .0 t)
 takes-reply (own.Done v r) o b e t = absurd (false≢true t)
 
 -- and a block that is
 of-reply : (o : Own) (b : Header) → OfReply o b → ownTakes o b ≡ true
 unfolding awaits continuesReply
 of-reply o b (first timer e s even n) = rw e (both _ _ .1 (eq-eqb _ _ (sym s), reply-exactly b .1 (even, n)))
-of-reply o b (further timer next r e k) = rw e (continues-exactly _ _ _ .1 k)
+of-reply o b (further a e k) = rw e (continues-exactly _ _ a b .1 k)
 
 pub reply-says : (o : Own) (b : Header) → ownTakes o b ≡ true ↔ OfReply o b
 reply-says o b = (takes-reply (o .stage) o b refl, of-reply o b)
@@ -81,7 +82,7 @@ reply-says o b = (takes-reply (o .stage) o b refl, of-reply o b)
 takes-message : (s : IncomingStage) (i : Incoming) (b : Header) → i .stage ≡ s → incomingTakesAt s i b ≡ true → OfMessage i b
 unfolding continuesHere
 takes-message incoming.Free i b e t = absurd (false≢true t)
-takes-message (incoming.Open timer next n) i b e t = goes-on timer next n e (continues-exactly _ _ _ .0 t)
+takes-message (incoming.Open a) i b e t = goes-on a e (continues-exactly _ _ a b .0 t)
 takes-message (incoming.Complete n) i b e t = absurd (false≢true t)
 takes-message (incoming.Replying n) i b e t = absurd (false≢true t)
 takes-message (incoming.Replied n f) i b e t = absurd (false≢true t)
@@ -89,7 +90,7 @@ takes-message (incoming.Replied n f) i b e t = absurd (false≢true t)
 -- and a block that is
 of-message : (i : Incoming) (b : Header) → OfMessage i b → incomingTakes i b ≡ true
 unfolding continuesHere
-of-message i b (goes-on timer next n e k) = rw e (continues-exactly _ _ _ .1 k)
+of-message i b (goes-on a e k) = rw e (continues-exactly _ _ a b .1 k)
 
 pub message-says : (i : Incoming) (b : Header) → incomingTakes i b ≡ true ↔ OfMessage i b
 message-says i b = (takes-message (i .stage) i b refl, of-message i b)
@@ -102,7 +103,7 @@ begins b = (
 
 -- ---- rule 5
 
-pub long : (have size : ℕ) → tooLong have size ≡ true ↔ (4096 < have + size)
+pub long : (have size : ℕ) → tooLong have size ≡ true ↔ (messageLimit < have + size)
 unfolding tooLong
 long have size = (λ t. ltb-true _ _ t, λ l. lt-ltb _ _ l)
 
@@ -110,7 +111,7 @@ long have size = (λ t. ltb-true _ _ t, λ l. lt-ltb _ _ l)
 
 pub is-free : (s : IncomingStage) → freeAt s ≡ true ↔ (s ≡ incoming.Free)
 is-free incoming.Free = (λ t. refl, λ e. refl)
-is-free (incoming.Open timer next n) = (λ t. absurd (false≢true t), λ e. ap freeAt e)
+is-free (incoming.Open a) = (λ t. absurd (false≢true t), λ e. ap freeAt e)
 is-free (incoming.Complete n) = (λ t. absurd (false≢true t), λ e. ap freeAt e)
 is-free (incoming.Replying n) = (λ t. absurd (false≢true t), λ e. ap freeAt e)
 is-free (incoming.Replied n f) = (λ t. absurd (false≢true t), λ e. ap freeAt e)

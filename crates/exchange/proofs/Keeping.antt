@@ -6,6 +6,7 @@ use mathlib.Core.List.{List}
 use mathlib.Core.Logic.{⊎-elim}
 use native.Mathlib.Omega.{arith}
 use lib.ListN.{length}
+use Rattle.wire.specs.Message.{messageLimit}
 use Rattle.wire.proofs.Choice.{chosen}
 use Rattle.header.specs.Header.{headerOf}
 use Rattle.header.specs.declared.header.Header.{Header}
@@ -58,7 +59,7 @@ no-incoming-flag : (p : ℕ) → incomingFlags p false false ≡ noFlags
 no-incoming-flag p = λ k. record { verdicts = noMarks; completed = no-mark p k; dropped = no-mark p k }
 
 -- a block that is kept spoils nothing
-unspoilt : (b : Header) (have : ℕ) (d : List ℕ) → (LacksData b (length d) → ⊥) → (4096 < have + length d → ⊥) → Spoils b have d → ⊥
+unspoilt : (b : Header) (have : ℕ) (d : List ℕ) → (LacksData b (length d) → ⊥) → (messageLimit < have + length d → ⊥) → Spoils b have d → ⊥
 unspoilt b have d has fits s = ⊎-elim has fits s
 
 -- what is chosen where the test holds
@@ -70,7 +71,7 @@ held t a b e = rw e
 -- it has no verdict yet
 undecided : (o : Own) (b : Header) → OfReply o b → ownHasVerdict o ≡ false
 undecided o b (first timer e s even n) = rw e
-undecided o b (further timer next r e k) = rw e
+undecided o b (further a e k) = rw e
 
 -- its verdict, if it gets one, is told
 flagged : (p : ℕ) (o q : Own) (given : Bool) → ownHasVerdict o ≡ false → ownHasVerdict q ≡ given → verdictFlag p (gotVerdict o q) ≡ verdictFlag p given
@@ -145,11 +146,11 @@ message-goes :
     (x : Exchange) (h d room : List ℕ) (p : ℕ)
     → MessageGoes x h d room p (incomingLength (incomingPlace x p))
     (continuedAs (savedNow x h) p (incomingPlace x p)
-    (keptBy (incomingPlace x p) (headerOf h .number) (fateOf (headerOf h) (incomingLength (incomingPlace x p)) (length d)))
+    (keptBy (incomingPlace x p) (headerOf h) (fateOf (headerOf h) (incomingLength (incomingPlace x p)) (length d)))
     (fateOf (headerOf h) (incomingLength (incomingPlace x p)) (length d)) d room)
 message-goes x h d room p =
     by-fate (headerOf h) (incomingLength (incomingPlace x p)) (length d)
-    (λ f. MessageGoes x h d room p (incomingLength (incomingPlace x p)) (continuedAs (savedNow x h) p (incomingPlace x p) (keptBy (incomingPlace x p) (headerOf h .number) f) f d room))
+    (λ f. MessageGoes x h d room p (incomingLength (incomingPlace x p)) (continuedAs (savedNow x h) p (incomingPlace x p) (keptBy (incomingPlace x p) (headerOf h) f) f d room))
     (λ lacks.
     record {
       broken = λ s. record { state = refl; flags = refl; bytes = refl };
@@ -179,7 +180,7 @@ pub message-block : MessageBlock
 unfolding newBlock noReplyBlock messageBlock incomingOffered goesOn savedNow
 message-block c x h d room four new none p w =
     subst (MessageGoes x h d room p (bytesBefore x b)) (sym judges)
-    (subst (λ (n : ℕ). MessageGoes x h d room p n (continuedAs (savedNow x h) p i (keptBy i (b .number) (fateOf b have (length d))) (fateOf b have (length d)) d room)) (sym before)
+    (subst (λ (n : ℕ). MessageGoes x h d room p n (continuedAs (savedNow x h) p i (keptBy i b (fateOf b have (length d))) (fateOf b have (length d)) d room)) (sym before)
     (message-goes x h d room p))
   where
     b : Header
@@ -200,7 +201,7 @@ message-block c x h d room four new none p w =
     before : bytesBefore x b ≡ have
     before = bytes-before x b four .message none p w
 
-    judges : judgeOf c x h d room ≡ continuedAs (savedNow x h) p i (keptBy i (b .number) (fateOf b have (length d))) (fateOf b have (length d)) d room
+    judges : judgeOf c x h d room ≡ continuedAs (savedNow x h) p i (keptBy i b (fateOf b have (length d))) (fateOf b have (length d)) d room
     judges =
         passes c x h d room new
         ∙ ap (λ (f : Found). ofReply f (savedNow x h) (headerOf h) d room) no-reply

@@ -7,6 +7,7 @@ use mathlib.Core.Logic.{_↔_, _⊎_, inl, inr, ⊎-elim, _≢_}
 use native.Mathlib.Nat.{zero-add}
 use native.Mathlib.Omega.{arith}
 use lib.ListN.{length}
+use Rattle.wire.specs.Message.{messageLimit}
 use Rattle.header.specs.Header.{headerOf}
 use Rattle.header.specs.declared.header.Header.{Header}
 use Rattle.settings.specs.declared.terms.Terms.{Terms}
@@ -156,17 +157,17 @@ by-rule-6 c x h d room four new =
     (λ l. absurd (new .has-data l)) (λ a l. absurd (omega (arith, new .fits))) (λ a e l. rw e) (λ a e l s. rw e)
 
 -- what the place is then
-begun-by : (i : Incoming) (h : Header) (n : ℕ) → (LacksData h n → ⊥) → n ≤ 4096 → begins i h n ≡ begunWith h n
+begun-by : (i : Incoming) (h : Header) (n : ℕ) → (LacksData h n → ⊥) → n ≤ messageLimit → begins i h n ≡ begunWith h n
 unfolding begins
 begun-by i h n has fits =
-    by-fate h 0 n (λ f. begunBy i h (h .number) f ≡ begunWith h n)
+    by-fate h 0 n (λ f. begunBy i h f ≡ begunWith h n)
     (λ l. absurd (has l)) (λ a l. absurd (omega arith)) (λ a e l. rw (e, zero-add n)) (λ a e l s. rw (e, zero-add n))
 
 begun-there :
     (s : IncomingStage) (i : Incoming) (h : Header) (n : ℕ) → (openAt s || freeAt s ≡ true)
-    → (LacksData h n → ⊥) → n ≤ 4096 → begunAt s i h n ≡ begunWith h n
+    → (LacksData h n → ⊥) → n ≤ messageLimit → begunAt s i h n ≡ begunWith h n
 begun-there incoming.Free i h n t has fits = begun-by i h n has fits
-begun-there (incoming.Open timer next m) i h n t has fits = begun-by i h n has fits
+begun-there (incoming.Open a) i h n t has fits = begun-by i h n has fits
 begun-there (incoming.Complete m) i h n t has fits = absurd (false≢true t)
 begun-there (incoming.Replying m) i h n t has fits = absurd (false≢true t)
 begun-there (incoming.Replied m e) i h n t has fits = absurd (false≢true t)

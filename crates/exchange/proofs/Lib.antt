@@ -1,9 +1,11 @@
 -- `Alike`, `Tests`, `Finding`, `Judging`: the tests of the rules, and what each says. `Notes`, `Leaving`, `Keeping`: which note is answered,
 -- and what judging leaves. `Refusing`, `Accepting`: which requests are refused, and what the others leave. `Table`: 01's numbers.
--- `Cases`: judging and the requests case by case; on it `Tables`, `Filling`, `Holding`, `Joining`, `Areas`: what the areas begin with after
--- any calls; `Watching`, `Inside`: each place goes through events of a place, as its onlooker sees them; `Flagging`, `Telling`: what the
--- flags tell. `Repeated`, `Outcomes`, `Blocks`, `Growing`, `Assembling`, `Answering`: the blocks of a cut message, judged in order, are the
--- message. `Numbering`: the transaction numbers.
+-- `Cases`: judging and the requests case by case; on it `BeingSent`: which calls start and end the message being sent; `Tables`,
+-- `Filling`, `Holding`, `Joining`, `Areas`: what the areas begin with after any calls. `AnyRoom`, `Runs`: any calls, each in any room.
+-- `OneCall`: what one call does to a place, case by case; on it `Releases`: what stays until a release; `Watching`, `Inside`: each place
+-- goes through events of a place, as its onlooker sees them. `Underway`, `Replies`: a request, and our reply, that is on its way.
+-- `Flagging`, `Telling`, `Stilling`: what the flags tell, and a tick at which nothing happens. `Repeated`, `Outcomes`, `Blocks`, `Growing`,
+-- `Assembling`, `Answering`: the blocks of a cut message, judged in order, are the message. `Numbering`: the transaction numbers.
 pub mod Alike
 pub mod Tests
 pub mod Finding
@@ -15,12 +17,20 @@ pub mod Refusing
 pub mod Accepting
 pub mod Table
 pub mod Cases
+pub mod BeingSent
 pub mod Tables
 pub mod Filling
 pub mod Holding
 pub mod Joining
 pub mod Areas
+pub mod AnyRoom
+pub mod Runs
+pub mod OneCall
+pub mod Releases
 pub mod Watching
+pub mod Underway
+pub mod Replies
+pub mod Ranges
 pub mod Inside
 pub mod Flagging
 pub mod Telling
@@ -32,3 +42,4 @@ pub mod Assembling
 pub mod Answering
 pub mod Stilling
 pub mod Numbering
+pub mod Latest

@@ -6,6 +6,7 @@ use mathlib.Core.List.{List}
 use mathlib.Core.Logic.{_↔_}
 use native.Mathlib.Omega.{arith}
 use lib.ListN.{length}
+use Rattle.wire.specs.Message.{messageLimit}
 use Rattle.wire.proofs.Choice.{judged}
 use Rattle.header.specs.Header.{headerOf}
 use Rattle.header.specs.declared.header.Header.{Header}
@@ -150,7 +151,7 @@ module _
     (duplicates : u ≡ true ↔ Duplicate c x h)
     (expected : e ≡ true ↔ Expected x (headerOf h))
     (lacking : l ≡ true ↔ LacksData (headerOf h) (length d))
-    (long : t ≡ true ↔ (4096 < total x h d))
+    (long : t ≡ true ↔ (messageLimit < total x h d))
     (placed : p ≡ true ↔ HasPlace x (headerOf h))
   where
     -- the rule of the note that they choose
@@ -206,7 +207,7 @@ notes-exactly c x h d room four n = (
     lacking : lacksData (headerOf h) (length d) ≡ true ↔ LacksData (headerOf h) (length d)
     lacking = lacks (headerOf h) (length d)
 
-    long : tooLong (bytesBefore x (headerOf h)) (length d) ≡ true ↔ (4096 < total x h d)
+    long : tooLong (bytesBefore x (headerOf h)) (length d) ≡ true ↔ (messageLimit < total x h d)
     long = test.long (bytesBefore x (headerOf h)) (length d)
 
     placed : hasPlace x (headerOf h) ≡ true ↔ HasPlace x (headerOf h)

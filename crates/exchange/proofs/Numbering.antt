@@ -14,13 +14,14 @@ use Rattle.header.specs.Header.{headerOf, headerBytes}
 use Rattle.header.specs.declared.header.Header.{Header}
 use Rattle.settings.specs.declared.terms.Terms.{Terms}
 use Rattle.settings.proofs.Timers.{by-timer}
+use Rattle.place.proofs.Arrivals.{by-waited}
 use Rattle.place.specs.Own.{freshOwn, primaryOf, standingAt, givenBy, ownStanding, ownIsFree, ownHasVerdict, ownKept, ended, ownSent, ownFailed, awaitedBy, awaitTick, replyingBy, replyTick, ownTick, ownOffered}
 use Rattle.place.specs.declared.Verdict.{Verdict}
 use Rattle.place.specs.declared.Standing.the-variants.{Free, Open, Given}
 use Rattle.place.specs.declared.OwnStage.{OwnStage}
 use Rattle.place.specs.declared.OwnStage.the-variants as stage
 use Rattle.place.specs.declared.Own.{Own}
-use Rattle.table.specs.Own.{ownAt, withOwn, tickedOwn}
+use Rattle.table.specs.Own.{ownAt, ownPut, tickedOwn}
 use Rattle.table.specs.Number.{numberOf}
 use Rattle.table.proofs.Finding.{reply-lowest}
 use Rattle.table.proofs.Giving.{number-given}
@@ -30,24 +31,22 @@ use Rattle.exchange.specs.Tick.{tickOf}
 use Rattle.exchange.specs.Send.{endedOwn, endedReply, sentBy, failedBy}
 use Rattle.exchange.specs.Judge.{thrown, replyBlock, messageBlock, beginsAt, judgeOf}
 use Rattle.exchange.specs.Reading.{ownReading}
-use Rattle.exchange.specs.Request.{openOf, replyOf, releaseOwn, releaseIncoming}
-use Rattle.exchange.specs.Refusals.{numberGiven}
+use Rattle.exchange.specs.Request.{Requesting, refusedBy, refused, replyAccepted, Request, answerOf}
+use Rattle.exchange.specs.Refusals.{numberGiven, Opened}
 use Rattle.exchange.specs.Rules.{Fours}
-use Rattle.exchange.specs.History.{block, tick, acknowledged, failed, primary, reply, free-own, free-incoming, atStart}
-use Rattle.exchange.specs.Numbers.{numberShown, shows, anyVerdict, byLine, byPlace, gets, NumbersSeen, highest, latestSeen, lastBy, numbersSees, numbersAtStart, NumbersAre, NumbersKeptOn, NumbersKept, inUse, NumberDistinct}
+use Rattle.exchange.specs.History.{block, tick, acknowledged, failed, request, atStart}
+use Rattle.exchange.specs.Numbers.{numberShown, shows, anyVerdict, byLine, byPlace, gets, NumbersSeen, highest, latestSeen, lastAsked, numbersSees, numbersAtStart, NumbersAre, NumbersKeptOn, NumbersKept, inUse, NumberDistinct}
 use Rattle.exchange.specs.declared.Sending.{Sending}
 use Rattle.exchange.specs.declared.Sending.the-variants as sending
 use Rattle.exchange.specs.declared.Numbers.{Numbers}
 use Rattle.exchange.specs.declared.Exchange.{Exchange}
 use Rattle.exchange.specs.declared.OwnReading.{OwnReading}
 use Rattle.exchange.specs.declared.OwnReading.the-variants.{NoPlace, Place}
-use Rattle.exchange.specs.declared.Asked.{Asked}
-use Rattle.exchange.specs.declared.Asked.the-variants.{Taken, Refused}
 use Rattle.exchange.specs.declared.Primary.{Primary}
-use Rattle.exchange.proofs.Cases.{by-judge}
-use Rattle.exchange.proofs.Accepting.{refused-number, refused-changes-nothing, accepted-opens, accepted-replies, accepted-releases}
-use Rattle.exchange.proofs.Areas.{fresh-good}
-use Rattle.exchange.proofs.Watching.{watched}
+use Rattle.exchange.proofs.Cases.{by-judge, by-request}
+use Rattle.exchange.proofs.Refusing.{lowest-free}
+use Rattle.exchange.proofs.Accepting.{opened, accepted-opens, own-released}
+use Rattle.exchange.proofs.Runs.{four-places, sound-fresh, run-any}
 
 -- ---- one place
 
@@ -68,7 +67,7 @@ open-shows : (kind : Verdict → Bool) (h : List ℕ) (z : OwnStage) → givenBy
 open-shows kind h stage.Free e = refl
 open-shows kind h stage.Sending e = refl
 open-shows kind h (stage.Awaiting timer) e = refl
-open-shows kind h (stage.Replying timer next r) e = refl
+open-shows kind h (stage.Replying a) e = refl
 open-shows kind h (stage.Done v r) e = absurd (true≢false e)
 
 open-gets : (kind : Verdict → Bool) (r : OwnReading) (o : Own) → ownHasVerdict o ≡ false → gets kind r (read o) ≡ false
@@ -85,7 +84,7 @@ shown : (h : List ℕ) (z : OwnStage) → shows anyVerdict (read (record { heade
 shown h stage.Free = refl
 shown h stage.Sending = refl
 shown h (stage.Awaiting timer) = refl
-shown h (stage.Replying timer next r) = refl
+shown h (stage.Replying a) = refl
 shown h (stage.Done v r) = refl
 
 -- so it does whether it gets one; t is whether it had one before
@@ -96,7 +95,7 @@ after-shown true h z n = refl
 after-shown false h stage.Free n = refl
 after-shown false h stage.Sending n = refl
 after-shown false h (stage.Awaiting timer) n = refl
-after-shown false h (stage.Replying timer next r) n = refl
+after-shown false h (stage.Replying a) n = refl
 after-shown false h (stage.Done v r) n = one-kind (byLine v) (headerOf h .system % 65536) n
 
 -- if it gets one, its number is the latest
@@ -143,7 +142,7 @@ module _ (x y : Exchange) (n : ℕ) where
       (λ e. rw (others k (eqb-false k p e)) (same-gets kind (read (ownPlace x k)))))
 
   -- place p is put anew
-  latest-put : (p : ℕ) (o : Own) → p < length (x .own) → length (x .own) ≡ 4 → y .own ≡ withOwn (x .own) p o
+  latest-put : (p : ℕ) (o : Own) → p < length (x .own) → length (x .own) ≡ 4 → y .own ≡ ownPut (x .own) p o
       → latestSeen (ownReading x) (ownReading y) n ≡ latestAfter n (ownPlace x p) o
   unfolding ownReading
   latest-put p o less four put =
@@ -176,7 +175,7 @@ without x y p others none same =
     (ap (λ (n : Numbers). n .last) same, ap (λ (n : Numbers). n .latest) same ∙ sym (latest-without x y (x .numbers .latest) p others none))
 
 -- own place p is put anew; none is put outside the table
-put-goes : (x y : Exchange) (p : ℕ) (o : Own) → length (x .own) ≡ 4 → (4 ≤ p → o ≡ freshOwn) → y .own ≡ withOwn (x .own) p o
+put-goes : (x y : Exchange) (p : ℕ) (o : Own) → length (x .own) ≡ 4 → (4 ≤ p → o ≡ freshOwn) → y .own ≡ ownPut (x .own) p o
     → y .numbers ≡ record { last = x .numbers .last; latest = latestAfter (x .numbers .latest) (ownPlace x p) o } → Goes x y
 unfolding latestAfter gotVerdict
 put-goes x y p o four out put same = (
@@ -225,8 +224,8 @@ tick-gets c h stage.Free = refl
 tick-gets c h stage.Sending = refl
 tick-gets c h (stage.Awaiting timer) =
     by-timer (c .t3) timer (λ t. shows byLine (read (awaitedBy (record { header = h; stage = stage.Awaiting timer }) t)) ≡ false) (λ _. refl) (λ _. refl)
-tick-gets c h (stage.Replying timer next r) =
-    by-timer (c .t4) timer (λ t. shows byLine (read (replyingBy (record { header = h; stage = stage.Replying timer next r }) next r t)) ≡ false) (λ _. refl) (λ _. refl)
+tick-gets c h (stage.Replying a) =
+    by-waited c a (λ t. shows byLine (read (replyingBy (record { header = h; stage = stage.Replying a }) t)) ≡ false) refl (λ _. refl)
 tick-gets c h (stage.Done v r) = refl
 
 module _ (c : Terms) (x : Exchange) (four : length (x .own) ≡ 4) where
@@ -265,32 +264,14 @@ unfolding headerOf headerBytes
 number-back h = omega arith
 
 -- an accepted primary shows the number that it was given
-module _ (c : Terms) (x : Exchange) (four : Fours x) (fits : x .numbers .last ≤ 65535) (q : Primary) (d room : List ℕ) (p : ℕ)
-    (taken : openOf c x q d room .answer .asked ≡ Taken p) where
+module _ (x : Exchange) (four : Fours x) (fits : x .numbers .last ≤ 65535) where
   given-fits : numberGiven x ≤ 65535
   given-fits = number-given (x .own) (x .numbers .last) (x .numbers .latest) (four .own) fits .fits
 
-  given-shown : numberShown (ownReading (openOf c x q d room .answer .exchange) p) ≡ numberGiven x
+  given-shown : (c : Terms) (q : Primary) (d room : List ℕ) (p : ℕ) (y : Exchange) (left : List ℕ) → Opened c x q d room p y left → numberShown (ownReading y p) ≡ numberGiven x
   unfolding ownReading
-  given-shown =
-      let o = accepted-opens c x q d room four p taken in
+  given-shown c q d room p y left o =
       ap (λ (i : Own). numberShown (read i)) (o .place) ∙ number-back (o .header) ∙ omega (arith, o .as-asked .system, given-fits)
-
--- one that was refused changes nothing; an accepted reply, and an accepted release, leave no verdict that was not there
-module _ (x : Exchange) where
-  reply-goes : (p f : ℕ) (d room : List ℕ) (a : Asked) → replyOf x p f d room .answer .asked ≡ a → Goes x (replyOf x p f d room .answer .exchange)
-  reply-goes p f d room (Taken k) e = let w = accepted-replies x p f d room k e in same-goes x _ (sym (w .own)) (w .numbers)
-  reply-goes p f d room (Refused r) e = unchanged x _ (refused-changes-nothing .replying x p f d room (refused-number _ r e) .0)
-
-  own-goes : (p : ℕ) (a : Asked) → releaseOwn x p .asked ≡ a → Goes x (releaseOwn x p .exchange)
-  own-goes p (Taken k) e =
-      let w = accepted-releases .own x p k e in
-      without x _ p (w .others) (ap (λ (z : OwnStage). givenBy (standingAt z)) (w .place)) (w .numbers)
-  own-goes p (Refused r) e = unchanged x _ (refused-changes-nothing .releasing-own x p (refused-number _ r e))
-
-  incoming-goes : (p : ℕ) (a : Asked) → releaseIncoming x p .asked ≡ a → Goes x (releaseIncoming x p .exchange)
-  incoming-goes p (Taken k) e = let w = accepted-releases .incoming x p k e in same-goes x _ (sym (w .own)) (w .numbers)
-  incoming-goes p (Refused r) e = unchanged x _ (refused-changes-nothing .releasing-incoming x p (refused-number _ r e))
 
 module _ (x : Exchange) (s : NumbersSeen) (w : NumbersAre x s) where
   goes-on : (y : Exchange) → Goes x y → NumbersAre y (record { last = s .last; latest = latestSeen (ownReading x) (ownReading y) (s .latest) })
@@ -300,20 +281,31 @@ module _ (x : Exchange) (s : NumbersSeen) (w : NumbersAre x s) where
     fits = subst (λ n. n ≤ 65535) (sym (g .0)) (w .fits);
   }
 
+  abbrev Asked : Request → Requesting → Type 0
+  Asked r a =
+      let y = a .answer .exchange in
+      NumbersAre y (record { last = lastAsked r (a .answer .asked) (ownReading y) (s .last); latest = latestSeen (ownReading x) (ownReading y) (s .latest) })
+
   pub stays-on : (y : Exchange) → y ≡ x → NumbersAre y (record { last = s .last; latest = latestSeen (ownReading x) (ownReading y) (s .latest) })
   stays-on y e = goes-on y (unchanged x y e)
 
-  open-on : (c : Terms) → Fours x → (q : Primary) (d room : List ℕ) (a : Asked) → openOf c x q d room .answer .asked ≡ a
-      → (let y = openOf c x q d room .answer .exchange in
-      NumbersAre y (record { last = lastBy a (ownReading y) (s .last); latest = latestSeen (ownReading x) (ownReading y) (s .latest) }))
-  open-on c four q d room (Taken p) e =
-      let o = accepted-opens c x q d room four p e in
+  -- a primary gives its number; a reply, and a release, leave no verdict that was not there
+  request-on : (c : Terms) → Fours x → (room : List ℕ) (r : Request) → Asked r (answerOf c x r room)
+  unfolding refused refusedBy replyAccepted putIncoming withSending
+  request-on c four room =
+      by-request c x room Asked (λ r n. stays-on x refl)
+      (λ q d p u e.
+      let o = opened c x q d room four p (lowest-free x four p .0 e) in
       record {
-        last = o .last ∙ sym (given-shown c x four (w .fits) q d room p e);
+        last = o .last ∙ sym (given-shown x four (w .fits) c q d room p _ _ o);
         latest = o .latest ∙ w .latest ∙ sym (latest-without x _ (s .latest) p (o .others) (ap ownHasVerdict (o .place)));
-        fits = subst (λ n. n ≤ 65535) (sym (o .last)) (given-fits c x four (w .fits) q d room p e);
-      }
-  open-on c four q d room (Refused r) e = stays-on _ (refused-changes-nothing .opening c x q d room (refused-number _ r e) .0)
+        fits = subst (λ n. n ≤ 65535) (sym (o .last)) (given-fits x four (w .fits));
+      })
+      (λ p f d u a b. goes-on _ (same-goes x _ refl refl))
+      (λ p e.
+      let f = own-released x p e in
+      goes-on _ (without x _ p (f .others) (ap (λ (z : OwnStage). givenBy (standingAt z)) (f .place)) (f .numbers)))
+      (λ p e. goes-on _ (same-goes x _ refl refl))
 
 -- ---- any calls
 
@@ -322,16 +314,12 @@ numbers-kept-on c x room four s (block h d) w = goes-on x s w _ (block-goes x (f
 numbers-kept-on c x room four s tick w = goes-on x s w _ (tick-goes c x (four .own))
 numbers-kept-on c x room four s acknowledged w = goes-on x s w _ (sent-goes x (four .own) (x .sending))
 numbers-kept-on c x room four s failed w = goes-on x s w _ (failed-goes x (four .own) (x .sending))
-numbers-kept-on c x room four s (primary q d) w = open-on x s w c four q d room (openOf c x q d room .answer .asked) refl
-numbers-kept-on c x room four s (reply p f d) w = goes-on x s w _ (reply-goes x p f d room (replyOf x p f d room .answer .asked) refl)
-numbers-kept-on c x room four s (free-own p) w = goes-on x s w _ (own-goes x p (releaseOwn x p .asked) refl)
-numbers-kept-on c x room four s (free-incoming p) w = goes-on x s w _ (incoming-goes x p (releaseIncoming x p .asked) refl)
+numbers-kept-on c x room four s (request r) w = request-on x s w c four room r
 
 pub numbers-kept : NumbersKept
 numbers-kept c last room fits whole ks =
-    watched c (numbersSees c) NumbersAre
-    (λ t s k g w. numbers-kept-on c (t .exchange) (t .room) (record { own = g .own-four; incoming = g .incoming-four }) s k w)
-    (atStart last room) (numbersAtStart last) ks (fresh-good last room whole) (record { last = refl; latest = refl; fits = fits })
+    run-any c (numbersSees c) NumbersAre (λ x lent s k g w. numbers-kept-on c x lent (four-places x g) s k w)
+    (atStart last room) (numbersAtStart last) ks (sound-fresh last room whole) (record { last = refl; latest = refl; fits = fits })
 
 -- ---- the number of a new primary
 
@@ -341,13 +329,13 @@ used : (h : List ℕ) (z : OwnStage) → inUse (read (record { header = h; stage
 used h stage.Free e = absurd (false≢true e)
 used h stage.Sending e = (refl, refl)
 used h (stage.Awaiting timer) e = (refl, refl)
-used h (stage.Replying timer next r) e = (refl, refl)
+used h (stage.Replying a) e = (refl, refl)
 used h (stage.Done v r) e = (refl, refl)
 
 pub number-distinct : NumberDistinct
 unfolding ownReading
 number-distinct c x four s w q d room p taken =
-    let shown = given-shown c x four (w .fits) q d room p taken in
+    let shown = given-shown x four (w .fits) c q d room p _ _ (accepted-opens c x q d room four p taken) in
     let given = number-given (x .own) (x .numbers .last) (x .numbers .latest) (four .own) (w .fits) in
     record {
       from-open = λ k less e same.

@@ -5,6 +5,7 @@ use mathlib.Core.Bool.{Bool, true, false, cond, and-false, not}
 use mathlib.Core.List.{List}
 use native.Mathlib.Omega.{arith}
 use lib.ListN.{length}
+use Rattle.wire.specs.Message.{messageLimit}
 use Rattle.header.specs.Header.{headerOf}
 use Rattle.header.specs.declared.header.Header.{Header}
 use Rattle.settings.specs.declared.terms.Terms.{Terms}
@@ -34,7 +35,7 @@ unfolding isDuplicate
 not-saved c x b e = rw (e, and-false (c .duplicates))
 
 -- rule 7: a block that lacks no data and fits is kept
-pub fate-kept : (h : Header) (have size : ℕ) → (LacksData h size → ⊥) → have + size ≤ 4096 → fateOf h have size ≡ keptOf h (have + size)
+pub fate-kept : (h : Header) (have size : ℕ) → (LacksData h size → ⊥) → have + size ≤ messageLimit → fateOf h have size ≡ keptOf h (have + size)
 fate-kept h have size has fits =
     by-fate h have size (λ f. f ≡ keptOf h (have + size))
     (λ lacks. absurd (has lacks)) (λ n long. absurd (omega arith)) (λ n e m. rw e) (λ n e m some. rw e)

@@ -23,9 +23,10 @@ use Rattle.table.proofs.Finding.{free-own-lowest}
 use Rattle.table.specs.declared.Found.{Found}
 use Rattle.table.specs.declared.Found.the-variants.{At, Nowhere}
 use Rattle.exchange.specs.Exchange.{ownPlace, incomingPlace}
-use Rattle.exchange.specs.Request.{Asking, refusedBy, refused, badPrimary, badFunction, dataLong, sendingBy, isSending, notReady, openBy, openFree, openOf, replyAccepted, replyReady, replyOf, releaseOwn, releaseIncoming}
+use Rattle.exchange.specs.Request.{Requesting, refusedBy, refused, badPrimary, badFunction, dataLong, sendingBy, isSending, notReady, openBy, openFree, openOf, replyAccepted, replyReady, replyOf, releaseOwn, releaseIncoming}
+use Rattle.exchange.specs.Request as request
 use Rattle.exchange.specs.Rules.{Fours, Somewhere, LowestAt}
-use Rattle.exchange.specs.Refusals.{BadPrimary, BadReply, DataAbove, IsSending, OwnFree, NoVerdict, own-above, own-free, without, NotReady, above, free, not-complete, on-its-way, NotWanted, RepliedBefore, replied, OpenRuled, open-5, open-6, open-7, open-8, open-0, Owed, ReplyRuled, reply-9, reply-10, reply-11, reply-5, reply-6, reply-7, reply-0, ReleaseRuled, release-9, release-0, numbered, OpenExactly, ReplyExactly, ReleaseOwnExactly, ReleaseIncomingExactly}
+use Rattle.exchange.specs.Refusals.{BadPrimary, BadReply, DataAbove, IsSending, OwnFree, NoVerdict, own-above, own-free, without, NotReady, above, free, not-complete, on-its-way, NotWanted, RepliedBefore, replied, OpenRuled, open-5, open-6, open-7, open-8, open-0, Owed, ReplyRuled, reply-9, reply-10, reply-11, reply-5, reply-6, reply-7, reply-0, ReleaseRuled, release-9, release-0, numbered, OpenExactly, ReplyExactly, ReleaseOwnExactly, ReleaseIncomingExactly, RequestExactly}
 use Rattle.exchange.specs.declared.Sending.{Sending}
 use Rattle.exchange.specs.declared.Sending.the-variants as sending
 use Rattle.exchange.specs.declared.Exchange.{Exchange}
@@ -65,7 +66,7 @@ own-is-free : (s : OwnStage) → freeBy (standingAt s) ≡ true ↔ (s ≡ own.F
 own-is-free own.Free = (λ t. refl, λ e. refl)
 own-is-free own.Sending = (λ t. absurd (false≢true t), λ e. ap (λ (s : OwnStage). freeBy (standingAt s)) e)
 own-is-free (own.Awaiting timer) = (λ t. absurd (false≢true t), λ e. ap (λ (s : OwnStage). freeBy (standingAt s)) e)
-own-is-free (own.Replying timer next r) = (λ t. absurd (false≢true t), λ e. ap (λ (s : OwnStage). freeBy (standingAt s)) e)
+own-is-free (own.Replying a) = (λ t. absurd (false≢true t), λ e. ap (λ (s : OwnStage). freeBy (standingAt s)) e)
 own-is-free (own.Done v r) = (λ t. absurd (false≢true t), λ e. ap (λ (s : OwnStage). freeBy (standingAt s)) e)
 
 module _ (x : Exchange) (four : Fours x) where
@@ -81,7 +82,7 @@ module _ (x : Exchange) (four : Fours x) (p : ℕ) where
   no-verdict-at own.Free e t = own-free e
   no-verdict-at own.Sending e t = without (ap standingAt e)
   no-verdict-at (own.Awaiting timer) e t = without (ap standingAt e)
-  no-verdict-at (own.Replying timer next r) e t = without (ap standingAt e)
+  no-verdict-at (own.Replying a) e t = without (ap standingAt e)
   no-verdict-at (own.Done v r) e t = absurd (false≢true t)
 
   is-no-verdict : NoVerdict x p → not (ownHasVerdict (ownPlace x p)) ≡ true
@@ -94,7 +95,7 @@ module _ (x : Exchange) (four : Fours x) (p : ℕ) where
 
   not-ready-at : (s : IncomingStage) → incomingPlace x p .stage ≡ s → not (completeAt s) && not (repliedAt s) ≡ true → NotReady x p
   not-ready-at incoming.Free e t = free e
-  not-ready-at (incoming.Open timer next n) e t = not-complete timer next n e
+  not-ready-at (incoming.Open a) e t = not-complete a e
   not-ready-at (incoming.Complete n) e t = absurd (false≢true t)
   not-ready-at (incoming.Replying n) e t = on-its-way n e
   not-ready-at (incoming.Replied n f) e t = absurd (false≢true t)
@@ -103,7 +104,7 @@ module _ (x : Exchange) (four : Fours x) (p : ℕ) where
   unfolding notReady
   is-not-ready (above more) = rw (List·getD-eq-default (x .incoming) freshIncoming {n = p} (omega (arith, four .incoming)))
   is-not-ready (free e) = rw e
-  is-not-ready (not-complete timer next n e) = rw e
+  is-not-ready (not-complete a e) = rw e
   is-not-ready (on-its-way n e) = rw e
 
   not-ready : notReady (incomingPlace x p) ≡ true ↔ NotReady x p
@@ -117,7 +118,7 @@ unwanted w = (not-true w, λ e. rw e)
 -- 11
 replied-at : (x : Exchange) (p : ℕ) (s : IncomingStage) → incomingPlace x p .stage ≡ s → repliedAt s ≡ true → RepliedBefore x p
 replied-at x p incoming.Free e t = absurd (false≢true t)
-replied-at x p (incoming.Open timer next n) e t = absurd (false≢true t)
+replied-at x p (incoming.Open a) e t = absurd (false≢true t)
 replied-at x p (incoming.Complete n) e t = absurd (false≢true t)
 replied-at x p (incoming.Replying n) e t = absurd (false≢true t)
 replied-at x p (incoming.Replied n f) e t = replied n f e
@@ -130,7 +131,7 @@ before x p = (replied-at x p (incomingPlace x p .stage) refl, was-replied x p)
 
 -- ---- opening
 
-abbrev number : Asking → ℕ
+abbrev number : Requesting → ℕ
 number a = numbered (a .answer)
 
 -- "5, 6, 7, 8"
@@ -290,3 +291,11 @@ pub release-incoming-exactly : ReleaseIncomingExactly
 unfolding releaseIncoming refusedBy
 release-incoming-exactly x p four n =
     release-by _ (notReady (incomingPlace x p)) (not-ready x four p) _ n (of-choice numbered (notReady (incomingPlace x p)) _ _)
+
+-- ---- any request
+
+pub request-exactly : RequestExactly
+request-exactly c x (request.primary q d) room four n = open-exactly c x q d room four n
+request-exactly c x (request.reply p f d) room four n = reply-exactly x p f d room four n
+request-exactly c x (request.free-own p) room four n = release-own-exactly x p four n
+request-exactly c x (request.free-incoming p) room four n = release-incoming-exactly x p four n

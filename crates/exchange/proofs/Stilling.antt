@@ -30,12 +30,12 @@ own-still : (c : Terms) (o : Own) (s : OwnStage) → timedAt s ≡ false → own
 own-still c o own.Free e = refl
 own-still c o own.Sending e = refl
 own-still c o (own.Awaiting timer) e = absurd (false≢true (sym e))
-own-still c o (own.Replying timer next r) e = absurd (false≢true (sym e))
+own-still c o (own.Replying a) e = absurd (false≢true (sym e))
 own-still c o (own.Done v r) e = refl
 
 incoming-still : (c : Terms) (i : Incoming) (s : IncomingStage) → incoming-specs.openAt s ≡ false → incoming-specs.tickAt c s i ≡ i
 incoming-still c i incoming.Free e = refl
-incoming-still c i (incoming.Open timer next n) e = absurd (false≢true (sym e))
+incoming-still c i (incoming.Open a) e = absurd (false≢true (sym e))
 incoming-still c i (incoming.Complete n) e = refl
 incoming-still c i (incoming.Replying n) e = refl
 incoming-still c i (incoming.Replied n end) e = refl

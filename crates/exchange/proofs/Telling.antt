@@ -6,15 +6,16 @@ use mathlib.Core.List.{List, [], _∷_, map}
 use mathlib.Core.Logic.{_↔_, _⊎_, inl, inr, ⊎-elim}
 use native.Mathlib.Omega.{arith}
 use lib.ListN.{length, set, List·getD-map}
+use Rattle.wire.specs.Message.{messageLimit}
 use Rattle.header.specs.Header.{headerOf}
 use Rattle.header.specs.declared.header.Header.{Header}
 use Rattle.settings.specs.declared.terms.Terms.{Terms}
-use Rattle.settings.proofs.Timers.{by-timer}
 use Rattle.wire.proofs.Choice.{either, chosen, both}
 use Rattle.place.specs.Fate.{beginsPrimary, fateOf}
 use Rattle.place.specs.Message.{LacksData}
 use Rattle.place.specs.Own.{ownTick, ownOffered, ownSent, ownFailed}
 use Rattle.place.specs.Incoming.{freshIncoming, incomingIsComplete, incomingIsOpen, incomingIsFree, openAt, freeAt, completeAt, incomingTick, openTick, openBy, incomingLength, incomingTakes, keptBy, begunBy, endedAt}
+use Rattle.place.proofs.Arrivals.{by-waited}
 use Rattle.place.proofs.Messages.{by-fate}
 use Rattle.place.specs.declared.Fate.{Fate}
 use Rattle.place.specs.declared.Fate.the-variants as fate
@@ -40,7 +41,7 @@ use Rattle.exchange.proofs.Leaving.{place-taken}
 use Rattle.exchange.proofs.Cases.{Takes, by-judge}
 use Rattle.exchange.proofs.Joining.{offered-kept}
 use Rattle.exchange.proofs.Areas.{taken-place, begun-at}
-use Rattle.exchange.proofs.Watching.{right-way}
+use Rattle.exchange.proofs.OneCall.{right-way}
 use Rattle.exchange.proofs.Flagging.{unmarked, marked-here, Forced, unflagged, own-flagged, incoming-flagged}
 use Rattle.exchange.specs.declared.Note.{Note}
 use Rattle.exchange.specs.declared.Note.the-variants.{Misrouted, Duplicate}
@@ -53,7 +54,7 @@ use Rattle.exchange.specs.declared.Exchange.{Exchange}
 -- a place that takes a block is open
 takes-open : (h : Header) (s : IncomingStage) (b : Header) → incomingTakes (record { header = h; stage = s }) b ≡ true → openAt s ≡ true
 takes-open h arrival.Free b t = absurd (false≢true t)
-takes-open h (arrival.Open timer next n) b t = refl
+takes-open h (arrival.Open a) b t = refl
 takes-open h (arrival.Complete n) b t = absurd (false≢true t)
 takes-open h (arrival.Replying n) b t = absurd (false≢true t)
 takes-open h (arrival.Replied n e) b t = absurd (false≢true t)
@@ -61,7 +62,7 @@ takes-open h (arrival.Replied n e) b t = absurd (false≢true t)
 -- an open message is not complete, and neither is a free place's
 open-incomplete : (s : IncomingStage) → (freeAt s ≡ true) ⊎ (openAt s ≡ true) → completeAt s ≡ false
 open-incomplete arrival.Free w = refl
-open-incomplete (arrival.Open timer next n) w = refl
+open-incomplete (arrival.Open a) w = refl
 open-incomplete (arrival.Complete n) (inl e) = absurd (false≢true e)
 open-incomplete (arrival.Complete n) (inr e) = absurd (false≢true e)
 open-incomplete (arrival.Replying n) w = refl
@@ -69,39 +70,39 @@ open-incomplete (arrival.Replied n e) w = refl
 
 module _ (i : Incoming) (incomplete : incomingIsComplete i ≡ false) where
   -- a further block
-  kept-complete : (n : ℕ) (f : Fate) → lastBy f ≡ becameComplete i (keptBy i n f)
+  kept-complete : (h : Header) (f : Fate) → lastBy f ≡ becameComplete i (keptBy i h f)
   unfolding becameComplete
-  kept-complete n fate.Empty = sym (rw incomplete)
-  kept-complete n fate.TooLong = sym (rw incomplete)
-  kept-complete n (fate.Last k) = sym (rw incomplete)
-  kept-complete n (fate.More k) = sym (rw incomplete)
+  kept-complete h fate.Empty = sym (rw incomplete)
+  kept-complete h fate.TooLong = sym (rw incomplete)
+  kept-complete h (fate.Last k) = sym (rw incomplete)
+  kept-complete h (fate.More k) = sym (rw incomplete)
 
   -- a first block that is kept
-  begun-complete : (h : Header) (n : ℕ) (f : Fate) → spoiltBy f ≡ false → lastBy f ≡ becameComplete i (begunBy i h n f)
+  begun-complete : (h : Header) (f : Fate) → spoiltBy f ≡ false → lastBy f ≡ becameComplete i (begunBy i h f)
   unfolding becameComplete
-  begun-complete h n fate.Empty e = absurd (false≢true (sym e))
-  begun-complete h n fate.TooLong e = absurd (false≢true (sym e))
-  begun-complete h n (fate.Last k) e = sym (rw incomplete)
-  begun-complete h n (fate.More k) e = sym (rw incomplete)
+  begun-complete h fate.Empty e = absurd (false≢true (sym e))
+  begun-complete h fate.TooLong e = absurd (false≢true (sym e))
+  begun-complete h (fate.Last k) e = sym (rw incomplete)
+  begun-complete h (fate.More k) e = sym (rw incomplete)
 
 -- an open message is dropped by a block that spoils it, and by no other
-kept-dropped : (i : Incoming) → incomingIsOpen i ≡ true → (n : ℕ) (f : Fate) → (spoiltBy f ≡ true) ↔ Dropped i (keptBy i n f)
-kept-dropped i opened n fate.Empty = (λ e. record { was-open = opened; is-free = refl }, λ d. refl)
-kept-dropped i opened n fate.TooLong = (λ e. record { was-open = opened; is-free = refl }, λ d. refl)
-kept-dropped i opened n (fate.Last k) = (λ e. absurd (false≢true e), λ d. absurd (false≢true (d .is-free)))
-kept-dropped i opened n (fate.More k) = (λ e. absurd (false≢true e), λ d. absurd (false≢true (d .is-free)))
+kept-dropped : (i : Incoming) → incomingIsOpen i ≡ true → (h : Header) (f : Fate) → (spoiltBy f ≡ true) ↔ Dropped i (keptBy i h f)
+kept-dropped i opened h fate.Empty = (λ e. record { was-open = opened; is-free = refl }, λ d. refl)
+kept-dropped i opened h fate.TooLong = (λ e. record { was-open = opened; is-free = refl }, λ d. refl)
+kept-dropped i opened h (fate.Last k) = (λ e. absurd (false≢true e), λ d. absurd (false≢true (d .is-free)))
+kept-dropped i opened h (fate.More k) = (λ e. absurd (false≢true e), λ d. absurd (false≢true (d .is-free)))
 
 -- no place is free where a message begins
-begun-there : (i : Incoming) (h : Header) (n : ℕ) (f : Fate) → spoiltBy f ≡ false → Dropped i (begunBy i h n f) → ⊥
-begun-there i h n fate.Empty e d = false≢true (sym e)
-begun-there i h n fate.TooLong e d = false≢true (sym e)
-begun-there i h n (fate.Last k) e d = false≢true (d .is-free)
-begun-there i h n (fate.More k) e d = false≢true (d .is-free)
+begun-there : (i : Incoming) (h : Header) (f : Fate) → spoiltBy f ≡ false → Dropped i (begunBy i h f) → ⊥
+begun-there i h fate.Empty e d = false≢true (sym e)
+begun-there i h fate.TooLong e d = false≢true (sym e)
+begun-there i h (fate.Last k) e d = false≢true (d .is-free)
+begun-there i h (fate.More k) e d = false≢true (d .is-free)
 
 -- a first block that is kept has data, and fits
-kept-fits : (b : Header) (n : ℕ) → spoiltBy (fateOf b 0 n) ≡ false → (LacksData b n → ⊥) × (n ≤ 4096)
+kept-fits : (b : Header) (n : ℕ) → spoiltBy (fateOf b 0 n) ≡ false → (LacksData b n → ⊥) × (n ≤ messageLimit)
 kept-fits b n =
-    by-fate b 0 n (λ f. spoiltBy f ≡ false → (LacksData b n → ⊥) × (n ≤ 4096))
+    by-fate b 0 n (λ f. spoiltBy f ≡ false → (LacksData b n → ⊥) × (n ≤ messageLimit))
     (λ l e. absurd (false≢true (sym e))) (λ has l e. absurd (false≢true (sym e))) (λ has e l s. (has, omega arith)) (λ has e l k s. (has, omega arith))
 
 module _ (c : Terms) (x : Exchange) (four : Fours x) (h d : List ℕ) where
@@ -154,9 +155,9 @@ module _ (c : Terms) (x : Exchange) (four : Fours x) (h d : List ℕ) where
       let t = message-lowest (x .incoming) b (four .incoming) .at p .0 m .1 in
       let o = takes-open (i .header) (i .stage) b t in
       let f = fateOf b (incomingLength i) (length d) in
-      let gone = kept-dropped i o (b .number) f in
+      let gone = kept-dropped i o b f in
       rw (offered-kept i b (length d) t)
-      (incoming-flagged x _ T p _ _ _ (four .incoming) refl refl (kept-complete i (open-incomplete (i .stage) (inr o)) (b .number) f) (gone .1) (λ e. inl (gone .0 e))))
+      (incoming-flagged x _ T p _ _ _ (four .incoming) refl refl (kept-complete i (open-incomplete (i .stage) (inr o)) b f) (gone .1) (λ e. inl (gone .0 e))))
       (λ p gone f q r m o e s t.
       let i = incomingPlace x p in
       let w = taken-place x b p gone (four .incoming) t in
@@ -167,8 +168,8 @@ module _ (c : Terms) (x : Exchange) (four : Fours x) (h d : List ℕ) where
       let y : Exchange = record { own = x .own; incoming = set (x .incoming) p a; saved = record { any = true; header = h }; numbers = x .numbers; sending = x .sending } in
       Forced T raised → Flagged x y T raised)
       (w .1)
-      (incoming-flagged x _ T p _ _ gone (four .incoming) refl refl (begun-complete i (open-incomplete (i .stage) (w .1)) b (b .number) (fateOf b 0 (length d)) (ap spoiltBy e ∙ s))
-      (λ z. absurd (begun-there i b (b .number) (fateOf b 0 (length d)) (ap spoiltBy e ∙ s) z)) (λ g. inr (throws-out p gone f q u r m o e s t g)))))
+      (incoming-flagged x _ T p _ _ gone (four .incoming) refl refl (begun-complete i (open-incomplete (i .stage) (w .1)) b (fateOf b 0 (length d)) (ap spoiltBy e ∙ s))
+      (λ z. absurd (begun-there i b (fateOf b 0 (length d)) (ap spoiltBy e ∙ s) z)) (λ g. inr (throws-out p gone f q u r m o e s t g)))))
       (λ n t r m. unflagged x _ T refl refl)
 
   judged-flags : (room : List ℕ) → Flagged x (judgeOf c x h d room .answer .exchange) (ThrowsOut c x h d) (judgeOf c x h d room .answer .flags)
@@ -188,8 +189,8 @@ four-at f (suc (suc (suc (suc p)))) k = absurd (omega arith)
 tick-incomplete : (c : Terms) (h : Header) (s : IncomingStage) → becameComplete (record { header = h; stage = s }) (incomingTick c (record { header = h; stage = s })) ≡ false
 unfolding becameComplete openTick
 tick-incomplete c h arrival.Free = refl
-tick-incomplete c h (arrival.Open timer next n) =
-    by-timer (c .t4) timer (λ t. incomingIsComplete (openBy (record { header = h; stage = arrival.Open timer next n }) next n t) ≡ false) (λ _. refl) (λ _. refl)
+tick-incomplete c h (arrival.Open a) =
+    by-waited c a (λ t. incomingIsComplete (openBy (record { header = h; stage = arrival.Open a }) t) ≡ false) refl (λ _. refl)
 tick-incomplete c h (arrival.Complete n) = refl
 tick-incomplete c h (arrival.Replying n) = refl
 tick-incomplete c h (arrival.Replied n e) = refl
@@ -226,14 +227,14 @@ mark-none (suc (suc (suc (suc p)))) = refl
 ended-incomplete : (z : End) (h : Header) (s : IncomingStage) → becameComplete (record { header = h; stage = s }) (endedAt z s (record { header = h; stage = s })) ≡ false
 unfolding becameComplete
 ended-incomplete z h arrival.Free = refl
-ended-incomplete z h (arrival.Open timer next n) = refl
+ended-incomplete z h (arrival.Open a) = refl
 ended-incomplete z h (arrival.Complete n) = refl
 ended-incomplete z h (arrival.Replying n) = refl
 ended-incomplete z h (arrival.Replied n e) = refl
 
 ended-there : (z : End) (h : Header) (s : IncomingStage) → Dropped (record { header = h; stage = s }) (endedAt z s (record { header = h; stage = s })) → ⊥
 ended-there z h arrival.Free d = false≢true (d .was-open)
-ended-there z h (arrival.Open timer next n) d = false≢true (d .is-free)
+ended-there z h (arrival.Open a) d = false≢true (d .is-free)
 ended-there z h (arrival.Complete n) d = false≢true (d .was-open)
 ended-there z h (arrival.Replying n) d = false≢true (d .was-open)
 ended-there z h (arrival.Replied n e) d = false≢true (d .was-open)

@@ -7,6 +7,7 @@ use mathlib.Core.Path.{_≡_}
 use mathlib.Core.Bool.{true, false}
 use mathlib.Core.List.{List, [], _∷_, _++_}
 use lib.ListN.{length, replicate}
+use Rattle.wire.specs.Message.{messageLimit}
 use Rattle.header.specs.Header.{InRange, headerBytes}
 use Rattle.header.specs.Theorems.{SameElse}
 use Rattle.header.specs.declared.header.Header.{Header}
@@ -22,7 +23,7 @@ use Rattle.place.specs.declared.OwnStage.the-variants.{Awaiting}
 use Rattle.place.specs.declared.Verdict.{Verdict}
 use Rattle.place.specs.declared.Verdict.the-variants.{Sent, Answered, Declined, Other, Broken, NoReply, SendFailed}
 use Rattle.place.specs.declared.Standing.the-variants.{Given}
-use Rattle.table.specs.Own.{withOwn}
+use Rattle.table.specs.Own.{ownPut}
 use Rattle.exchange.specs.Note.{noteNumber}
 use Rattle.exchange.specs.Flags.{noFlags, verdictFlag, incomingFlags}
 use Rattle.exchange.specs.Exchange.{freshExchange}
@@ -100,7 +101,7 @@ pub record Assembled (h : Header) (d : List ℕ) (r : Receiver) : Type 0 where
 abbrev pub AssemblyOfCut : Type 0
 AssemblyOfCut =
     (c : Terms) (last : ℕ) (room : List ℕ) (h : Header) (d : List ℕ)
-    → length room ≡ 36864 → InRange h → Routed c h → h .function % 2 ≡ 1 → length d ≤ 4096
+    → length room ≡ 36864 → InRange h → Routed c h → h .function % 2 ≡ 1 → length d ≤ messageLimit
     → Assembled h d (received c (freshReceiver last room) h d (blockCount (length d)))
 
 -- ---- a reply
@@ -108,7 +109,7 @@ AssemblyOfCut =
 -- own place p awaits the reply to a primary with header g, T3 at `timer`; the other own places are free, all else is as in x
 abbrev pub awaiting : Exchange → ℕ → Header → ℕ → Exchange
 awaiting x p g timer = record {
-  own = withOwn (replicate 4 freshOwn) p (record { header = headerBytes g; stage = Awaiting timer });
+  own = ownPut (replicate 4 freshOwn) p (record { header = headerBytes g; stage = Awaiting timer });
   incoming = x .incoming;
   saved = x .saved;
   numbers = x .numbers;
@@ -155,7 +156,7 @@ Earns g h SendFailed = ⊥
 abbrev pub AssemblyOfReply : Type 0
 AssemblyOfReply =
     (c : Terms) (x : Exchange) (room : List ℕ) (p timer : ℕ) (g h : Header) (d : List ℕ) (v : Verdict)
-    → length room ≡ 36864 → p < 4 → InRange g → InRange h → h .function % 2 ≡ 0 → Routed c h → IsReply g h → Earns g h v → length d ≤ 4096
+    → length room ≡ 36864 → p < 4 → InRange g → InRange h → h .function % 2 ≡ 0 → Routed c h → IsReply g h → Earns g h v → length d ≤ messageLimit
     → isDuplicate c (awaiting x p g timer) (headerIn h d 1) ≡ false
     → ReplyAssembled v x p g h d (received c (awaitingReceiver x room p g timer) h d (blockCount (length d)))
 

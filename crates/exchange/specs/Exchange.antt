@@ -7,8 +7,8 @@ use Rattle.place.specs.Own.{freshOwn, ownHasVerdict}
 use Rattle.place.specs.Incoming.{freshIncoming}
 use Rattle.place.specs.declared.Own.{Own}
 use Rattle.place.specs.declared.Incoming.{Incoming}
-use Rattle.table.specs.Own.{ownAt, withOwn}
-use Rattle.table.specs.Incoming.{incomingAt, withIncoming}
+use Rattle.table.specs.Own.{ownAt, ownPut}
+use Rattle.table.specs.Incoming.{incomingAt, incomingPut}
 use Rattle.table.specs.Number.{numberOf}
 use Rattle.exchange.specs.declared.Sending.{Sending}
 use Rattle.exchange.specs.declared.Sending.the-variants as sending
@@ -40,7 +40,7 @@ latestAfter latest before after = cond (gotVerdict before after) (numberOf after
 -- an own place is put anew
 unfoldable pub putOwn : Exchange → ℕ → Own → Exchange
 putOwn x p o = record {
-  own = withOwn (x .own) p o;
+  own = ownPut (x .own) p o;
   incoming = x .incoming;
   saved = x .saved;
   numbers = record { last = x .numbers .last; latest = latestAfter (x .numbers .latest) (ownPlace x p) o };
@@ -49,7 +49,7 @@ putOwn x p o = record {
 
 -- an incoming place is put anew
 unfoldable pub putIncoming : Exchange → ℕ → Incoming → Exchange
-putIncoming x p i = record { own = x .own; incoming = withIncoming (x .incoming) p i; saved = x .saved; numbers = x .numbers; sending = x .sending }
+putIncoming x p i = record { own = x .own; incoming = incomingPut (x .incoming) p i; saved = x .saved; numbers = x .numbers; sending = x .sending }
 
 -- another message is being sent, or none
 unfoldable pub withSending : Exchange → Sending → Exchange

@@ -14,22 +14,19 @@ use Rattle.exchange.specs.Exchange.{freshExchange}
 use Rattle.exchange.specs.Tick.{tickOf}
 use Rattle.exchange.specs.Send.{sentOf, failedOf}
 use Rattle.exchange.specs.Judge.{Judging, judgeOf}
-use Rattle.exchange.specs.Request.{Asking, openOf, replyOf, releaseOwn, releaseIncoming}
+use Rattle.exchange.specs.Request.{Requesting, Request, primary, reply, free-own, free-incoming, answerOf}
 use Rattle.exchange.specs.declared.Note.{Note}
 use Rattle.exchange.specs.declared.Note.the-variants.{Kept, Misrouted, Duplicate, Stray, NoPlace, TooLong, Empty}
 use Rattle.exchange.specs.declared.Exchange.{Exchange}
 use Rattle.exchange.specs.declared.Asked.{Asked}
 use Rattle.exchange.specs.declared.Asked.the-variants.{Taken, Refused}
-use Rattle.exchange.specs.declared.Primary.{Primary}
 
 -- A block went up, with its ten header bytes and its data; 0.1 s passed; the last block of the message being sent was acknowledged;
--- a block of it failed; a primary, a reply, a release are asked for.
+-- a block of it failed; something is asked for.
 pub data Call : Type 0 where
   block : (h d : List ℕ) → Call
   tick acknowledged failed : Call
-  primary : Primary → (d : List ℕ) → Call
-  reply : (p f : ℕ) (d : List ℕ) → Call
-  free-own free-incoming : (p : ℕ) → Call
+  request : Request → Call
 
 -- what is held between calls: the state, and the room as the last call left it
 pub record Held : Type 0 where
@@ -42,7 +39,7 @@ held x room = record { exchange = x; room = room }
 abbrev pub judged : Judging → Held
 judged j = held (j .answer .exchange) (j .room)
 
-abbrev pub asked : Asking → Held
+abbrev pub asked : Requesting → Held
 asked a = held (a .answer .exchange) (a .room)
 
 -- what a call leaves
@@ -51,10 +48,7 @@ called c x room (block h d) = judged (judgeOf c x h d room)
 called c x room tick = held (tickOf c x .exchange) room
 called c x room acknowledged = held (sentOf x .exchange) room
 called c x room failed = held (failedOf x .exchange) room
-called c x room (primary q d) = asked (openOf c x q d room)
-called c x room (reply p f d) = asked (replyOf x p f d room)
-called c x room (free-own p) = held (releaseOwn x p .exchange) room
-called c x room (free-incoming p) = held (releaseIncoming x p .exchange) room
+called c x room (request r) = asked (answerOf c x r room)
 
 -- ---- the onlooker
 
@@ -100,23 +94,23 @@ ifKept NoPlace s more = s
 ifKept TooLong s more = s
 ifKept Empty s more = s
 
-abbrev pub opens : Asked → Joined → List ℕ → Joined
-opens (Taken p) s d = record { replies = anew (s .replies) p []; messages = s .messages; outgoing = d }
-opens (Refused r) s d = s
+-- a request that is accepted, for place p: the data of a message is that to be sent, and to a primary nothing is replied yet
+abbrev pub joinsTaken : Request → ℕ → Joined → Joined
+joinsTaken (primary q d) p s = record { replies = anew (s .replies) p []; messages = s .messages; outgoing = d }
+joinsTaken (reply k f d) p s = record { replies = s .replies; messages = s .messages; outgoing = d }
+joinsTaken (free-own k) p s = s
+joinsTaken (free-incoming k) p s = s
 
-abbrev pub replies : Asked → Joined → List ℕ → Joined
-replies (Taken p) s d = record { replies = s .replies; messages = s .messages; outgoing = d }
-replies (Refused r) s d = s
+abbrev pub joinsAsked : Request → Asked → Joined → Joined
+joinsAsked r (Taken p) s = joinsTaken r p s
+joinsAsked r (Refused n) s = s
 
 abbrev pub sees : Terms → Exchange → List ℕ → Joined → Call → Joined
 sees c x room s (block h d) = ifKept (judgeOf c x h d room .answer .note) s (joins x h s d)
 sees c x room s tick = s
 sees c x room s acknowledged = s
 sees c x room s failed = s
-sees c x room s (primary q d) = opens (openOf c x q d room .answer .asked) s d
-sees c x room s (reply p f d) = replies (replyOf x p f d room .answer .asked) s d
-sees c x room s (free-own p) = s
-sees c x room s (free-incoming p) = s
+sees c x room s (request r) = joinsAsked r (answerOf c x r room .answer .asked) s
 
 -- ---- any calls from a fresh start
 

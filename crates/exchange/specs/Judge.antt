@@ -10,7 +10,8 @@ use Rattle.settings.specs.declared.terms.Terms.{Terms}
 use Rattle.room.specs.Room.{keptIn}
 use Rattle.room.specs.declared.Message.{Message}
 use Rattle.room.specs.declared.Message.the-variants as message
-use Rattle.place.specs.Fate.{beginsPrimary, fateOf, sameBit}
+use Rattle.place.specs.Fate.{beginsPrimary, fateOf}
+use Rattle.place.specs.Arriving.{sameBit}
 use Rattle.place.specs.Own.{ownKept, ownOffered}
 use Rattle.place.specs.Incoming.{incomingLength, incomingBegun, incomingOffered}
 use Rattle.place.specs.declared.Fate.{Fate}

@@ -11,7 +11,10 @@ pub mod Rules
 pub mod Refusals
 pub mod Table
 pub mod History
+pub mod BeingSent
+pub mod Releases
 pub mod Theorems
 pub mod Watching
+pub mod Underway
 pub mod Assembly
 pub mod Numbers

@@ -12,9 +12,9 @@ use Rattle.place.specs.declared.Verdict.{Verdict}
 use Rattle.place.specs.declared.Verdict.the-variants.{Sent, Answered, Declined, Other, Broken, NoReply, SendFailed}
 use Rattle.place.specs.declared.Standing.the-variants.{Free, Open, Given}
 use Rattle.exchange.specs.Reading.{ownReading}
-use Rattle.exchange.specs.Request.{openOf}
+use Rattle.exchange.specs.Request.{openOf, Request, primary, reply, free-own, free-incoming, answerOf}
 use Rattle.exchange.specs.Rules.{Fours}
-use Rattle.exchange.specs.History.{Call, block, tick, acknowledged, failed, primary, reply, free-own, free-incoming, called, track, atStart}
+use Rattle.exchange.specs.History.{Call, block, tick, acknowledged, failed, request, called, track, atStart}
 use Rattle.exchange.specs.Watching.{watch}
 use Rattle.exchange.specs.declared.Exchange.{Exchange}
 use Rattle.exchange.specs.declared.OwnReading.{OwnReading}
@@ -79,20 +79,24 @@ highest kind before after latest =
 abbrev pub latestSeen : (ℕ → OwnReading) → (ℕ → OwnReading) → ℕ → ℕ
 latestSeen before after latest = highest byPlace before after (highest byLine before after latest)
 
--- a primary that was accepted shows its number; one that was refused uses none up
-abbrev pub lastBy : Asked → (ℕ → OwnReading) → ℕ → ℕ
-lastBy (Taken p) after last = numberShown (after p)
-lastBy (Refused r) after last = last
+-- a primary that was accepted shows its number; no other request gives one
+abbrev pub lastBy : Request → OwnReading → ℕ → ℕ
+lastBy (primary q d) after last = numberShown after
+lastBy (reply p f d) after last = last
+lastBy (free-own p) after last = last
+lastBy (free-incoming p) after last = last
+
+-- one that was refused uses none up
+abbrev pub lastAsked : Request → Asked → (ℕ → OwnReading) → ℕ → ℕ
+lastAsked r (Taken p) after last = lastBy r (after p) last
+lastAsked r (Refused n) after last = last
 
 abbrev pub lastSeen : Terms → Exchange → List ℕ → ℕ → Call → ℕ
 lastSeen c x room last (block h d) = last
 lastSeen c x room last tick = last
 lastSeen c x room last acknowledged = last
 lastSeen c x room last failed = last
-lastSeen c x room last (primary q d) = lastBy (openOf c x q d room .answer .asked) (ownReading (openOf c x q d room .answer .exchange)) last
-lastSeen c x room last (reply p f d) = last
-lastSeen c x room last (free-own p) = last
-lastSeen c x room last (free-incoming p) = last
+lastSeen c x room last (request r) = lastAsked r (answerOf c x r room .answer .asked) (ownReading (answerOf c x r room .answer .exchange)) last
 
 abbrev pub numbersSees : Terms → Exchange → List ℕ → NumbersSeen → Call → NumbersSeen
 numbersSees c x room s k = record {

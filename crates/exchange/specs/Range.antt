@@ -1,9 +1,12 @@
 -- The ranges of docs/STATE.md for the transactions.
-use Prim.Native.Nat.{ℕ}
+use Prim.Native.Nat.{ℕ, _≤_, _<_}
+use mathlib.Core.Path.{_≡_}
 use mathlib.Core.Bool.{Bool, true, _&&_}
 use mathlib.Core.List.{List}
+use mathlib.Core.Logic.{_↔_}
 use lib.Dec.{leb}
-use Rattle.place.specs.Range.{ownInRange, incomingInRange}
+use Rattle.wire.specs.Message.{messageLimit}
+use Rattle.place.specs.Range.{ownInRange, incomingInRange, OwnFits, IncomingFits}
 use Rattle.place.specs.declared.Own.{Own}
 use Rattle.place.specs.declared.Incoming.{Incoming}
 use Rattle.table.specs.Own.{ownAt}
@@ -21,7 +24,7 @@ incomingsInRange is =
 
 -- the place of the message being sent is one of four, and its data fits the send area
 unfoldable pub messageInRange : ℕ → ℕ → Bool
-messageInRange p n = leb p 3 && leb n 4096
+messageInRange p n = leb p 3 && leb n messageLimit
 
 abbrev pub sendingInRange : Sending → Bool
 sendingInRange sending.Nothing = true
@@ -30,3 +33,23 @@ sendingInRange (sending.Reply p f n) = messageInRange p n
 
 unfoldable pub exchangeInRange : Exchange → Bool
 exchangeInRange x = ownsInRange (x .own) && (incomingsInRange (x .incoming) && sendingInRange (x .sending))
+
+-- ---- the same in numbers, field by field
+
+-- the place and the data bytes of the message being sent
+abbrev pub SendingFits : Sending → Type 0
+SendingFits sending.Nothing = Unit {0}
+SendingFits (sending.Primary p n) = (p ≤ 3) × (n ≤ messageLimit)
+SendingFits (sending.Reply p f n) = (p ≤ 3) × (n ≤ messageLimit)
+
+pub record ExchangeFits (x : Exchange) : Type 0 where
+  pub own : (p : ℕ) → p < 4 → OwnFits (ownAt (x .own) p)
+  pub incoming : (p : ℕ) → p < 4 → IncomingFits (incomingAt (x .incoming) p)
+  pub sending : SendingFits (x .sending)
+
+-- The tests ask for these ranges, and no more.
+abbrev pub SendingFitsExactly : Type 0
+SendingFitsExactly = (s : Sending) → sendingInRange s ≡ true ↔ SendingFits s
+
+abbrev pub ExchangeFitsExactly : Type 0
+ExchangeFitsExactly = (x : Exchange) → exchangeInRange x ≡ true ↔ ExchangeFits x

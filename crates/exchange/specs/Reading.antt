@@ -1,6 +1,6 @@
 -- What a user reads of a place.
 use Prim.Native.Nat.{ℕ}
-use mathlib.Core.Bool.{cond, not}
+use mathlib.Core.Bool.{Bool, true, false, cond, not}
 use Rattle.header.specs.declared.header.Header.{Header}
 use Rattle.place.specs.Own.{primaryOf as ownPrimary, ownStanding, ownIsFree, ownKept}
 use Rattle.place.specs.Incoming.{primaryOf as incomingPrimary, incomingLength, incomingIsFree, incomingIsOpen}
@@ -34,7 +34,7 @@ endedBy end.Failed = Failed
 
 abbrev pub replyStageAt : IncomingStage → Incoming → ReplyStage
 replyStageAt stage.Free i = NotOwed
-replyStageAt (stage.Open timer next n) i = NotOwed
+replyStageAt (stage.Open a) i = NotOwed
 replyStageAt (stage.Complete n) i = wanted (incomingPrimary i)
 replyStageAt (stage.Replying n) i = OnItsWay
 replyStageAt (stage.Replied n e) i = endedBy e
@@ -46,3 +46,16 @@ unfoldable pub incomingReading : Exchange → ℕ → IncomingReading
 incomingReading x p =
     cond (incomingIsFree (incomingPlace x p)) incoming.NoPlace
     (incoming.Place (incomingPrimary (incomingPlace x p)) (incomingLength (incomingPlace x p)) (not (incomingIsOpen (incomingPlace x p))) (replyStage (incomingPlace x p)))
+
+-- what it says of our reply
+abbrev pub stageBy : IncomingReading → ReplyStage
+stageBy incoming.NoPlace = NotOwed
+stageBy (incoming.Place h n c r) = r
+
+-- "A reply of ours ends sent or failed in its incoming place": it has its end
+abbrev pub hasEnded : ReplyStage → Bool
+hasEnded NotOwed = false
+hasEnded Owed = false
+hasEnded OnItsWay = false
+hasEnded Sent = true
+hasEnded Failed = true

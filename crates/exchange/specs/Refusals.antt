@@ -6,6 +6,7 @@ use mathlib.Core.Bool.{false, not}
 use mathlib.Core.List.{List}
 use mathlib.Core.Logic.{_↔_, _⊎_, _≢_}
 use lib.ListN.{length}
+use Rattle.wire.specs.Message.{messageLimit}
 use Rattle.header.specs.Header.{InRange, headerBytes}
 use Rattle.header.specs.declared.header.Header.{Header}
 use Rattle.settings.specs.declared.terms.Terms.{Terms}
@@ -14,13 +15,14 @@ use Rattle.room.specs.declared.Message.the-variants as message
 use Rattle.place.specs.Own.{ownStanding}
 use Rattle.place.specs.Incoming.{primaryOf}
 use Rattle.place.specs.declared.Standing.the-variants as standing
+use Rattle.place.specs.declared.Arriving.{Arriving}
 use Rattle.place.specs.declared.OwnStage.the-variants as own
 use Rattle.place.specs.declared.End.{End}
 use Rattle.place.specs.declared.IncomingStage.the-variants as incoming
 use Rattle.table.specs.Number.{nextNumber}
 use Rattle.exchange.specs.Exchange.{ownPlace, incomingPlace}
 use Rattle.exchange.specs.Send.{outgoingOf}
-use Rattle.exchange.specs.Request.{askedNumber, openOf, replyOf, releaseOwn, releaseIncoming}
+use Rattle.exchange.specs.Request.{askedNumber, openOf, replyOf, releaseOwn, releaseIncoming, Request, primary, reply, free-own, free-incoming, answerOf}
 use Rattle.exchange.specs.Rules.{Fours, Somewhere, LowestAt}
 use Rattle.exchange.specs.declared.Sending.the-variants as sending
 use Rattle.exchange.specs.declared.Exchange.{Exchange}
@@ -42,7 +44,7 @@ pub record BadReply (primary : Header) (f : ℕ) : Type 0 where
 
 -- 6: "data above 4,096 bytes"
 abbrev pub DataAbove : List ℕ → Type 0
-DataAbove d = 4096 < length d
+DataAbove d = messageLimit < length d
 
 -- 7: "a message is being sent or held"
 abbrev pub IsSending : Exchange → Type 0
@@ -65,7 +67,7 @@ pub data NoVerdict (x : Exchange) (p : ℕ) : Type 0 where
 pub data NotReady (x : Exchange) (p : ℕ) : Type 0 where
   above : 3 < p → NotReady x p
   free : incomingPlace x p .stage ≡ incoming.Free → NotReady x p
-  not-complete : (timer next n : ℕ) → incomingPlace x p .stage ≡ incoming.Open timer next n → NotReady x p
+  not-complete : (a : Arriving) → incomingPlace x p .stage ≡ incoming.Open a → NotReady x p
   on-its-way : (n : ℕ) → incomingPlace x p .stage ≡ incoming.Replying n → NotReady x p
 
 -- 10: "reply to a primary with W = 0"
@@ -126,17 +128,42 @@ ReleaseOwnExactly = (x : Exchange) (p : ℕ) → Fours x → (n : ℕ) → (numb
 abbrev pub ReleaseIncomingExactly : Type 0
 ReleaseIncomingExactly = (x : Exchange) (p : ℕ) → Fours x → (n : ℕ) → (numbered (releaseIncoming x p) ≡ n) ↔ ReleaseRuled (NotReady x p) n
 
+-- the rows of any request
+abbrev pub RequestRuled : Exchange → Request → ℕ → Type 0
+RequestRuled x (primary q d) n = OpenRuled x q d n
+RequestRuled x (reply p f d) n = ReplyRuled x p f d n
+RequestRuled x (free-own p) n = ReleaseRuled (NoVerdict x p) n
+RequestRuled x (free-incoming p) n = ReleaseRuled (NotReady x p) n
+
+abbrev pub RequestExactly : Type 0
+RequestExactly =
+    (c : Terms) (x : Exchange) (r : Request) (room : List ℕ) → Fours x
+    → (n : ℕ) → (numbered (answerOf c x r room .answer) ≡ n) ↔ RequestRuled x r n
+
 -- ---- "A refusal reports .. state and memory untouched."
 
-pub record RefusedChangesNothing : Type 0 where
-  pub opening :
-      (c : Terms) (x : Exchange) (q : Primary) (d room : List ℕ) → numbered (openOf c x q d room .answer) ≢ 0
-      → (openOf c x q d room .answer .exchange ≡ x) × (openOf c x q d room .room ≡ room)
-  pub replying :
-      (x : Exchange) (p f : ℕ) (d room : List ℕ) → numbered (replyOf x p f d room .answer) ≢ 0
-      → (replyOf x p f d room .answer .exchange ≡ x) × (replyOf x p f d room .room ≡ room)
-  pub releasing-own : (x : Exchange) (p : ℕ) → numbered (releaseOwn x p) ≢ 0 → releaseOwn x p .exchange ≡ x
-  pub releasing-incoming : (x : Exchange) (p : ℕ) → numbered (releaseIncoming x p) ≢ 0 → releaseIncoming x p .exchange ≡ x
+abbrev pub RefusedChangesNothing : Type 0
+RefusedChangesNothing =
+    (c : Terms) (x : Exchange) (r : Request) (room : List ℕ) → numbered (answerOf c x r room .answer) ≢ 0
+    → (answerOf c x r room .answer .exchange ≡ x) × (answerOf c x r room .room ≡ room)
+
+-- ---- "A call writes only .. the area bytes it fills."
+
+-- what an accepted request writes: a message's data into the send area; a release writes nothing
+abbrev pub FillsBy : Request → List ℕ → List ℕ → Type 0
+FillsBy (primary q d) room after = after ≡ keptIn room message.Send 0 d
+FillsBy (reply p f d) room after = after ≡ keptIn room message.Send 0 d
+FillsBy (free-own p) room after = after ≡ room
+FillsBy (free-incoming p) room after = after ≡ room
+
+abbrev pub AcceptedFills : Type 0
+AcceptedFills =
+    (c : Terms) (x : Exchange) (r : Request) (room : List ℕ) (p : ℕ) → answerOf c x r room .answer .asked ≡ Taken p
+    → FillsBy r room (answerOf c x r room .room)
+
+-- the room is as long as it was, after any request
+abbrev pub RequestSpares : Type 0
+RequestSpares = (c : Terms) (x : Exchange) (r : Request) (room : List ℕ) → length (answerOf c x r room .room) ≡ length room
 
 -- ---- a primary that is accepted
 

@@ -4,6 +4,7 @@ use mathlib.Core.Bool.{Bool, true, false, cond, not, _&&_, _||_}
 use mathlib.Core.List.{List}
 use lib.Dec.{eqb, ltb}
 use lib.ListN.{length}
+use Rattle.wire.specs.Message.{messageLimit}
 use Rattle.header.specs.Header.{headerBytes}
 use Rattle.header.specs.declared.header.Header.{Header}
 use Rattle.settings.specs.declared.terms.Terms.{Terms}
@@ -12,7 +13,7 @@ use Rattle.room.specs.declared.Message.the-variants as message
 use Rattle.place.specs.Own.{ownClaimed, ownReleased, ownHasVerdict}
 use Rattle.place.specs.Incoming.{primaryOf, incomingIsComplete, incomingIsReplied, incomingAnswered, incomingReleased}
 use Rattle.place.specs.declared.Incoming.{Incoming}
-use Rattle.table.specs.Own.{freeOwn, withOwn}
+use Rattle.table.specs.Own.{freeOwn, ownPut}
 use Rattle.table.specs.Number.{nextNumber}
 use Rattle.table.specs.declared.Found.{Found}
 use Rattle.table.specs.declared.Found.the-variants.{At, Nowhere}
@@ -43,19 +44,19 @@ askedNumber (Taken p) = 0
 askedNumber (Refused r) = refusalNumber r
 
 -- What a request leaves: what it answers, and every byte of the room.
-pub record Asking : Type 0 where
+pub record Requesting : Type 0 where
   pub answer : Requested
   pub room : List ℕ
 
-abbrev pub asking : Requested → List ℕ → Asking
-asking q room = record { answer = q; room = room }
+abbrev pub requesting : Requested → List ℕ → Requesting
+requesting q room = record { answer = q; room = room }
 
 -- a refused request changes nothing
 unfoldable pub refusedBy : Exchange → Refusal → Requested
 refusedBy x r = record { exchange = x; asked = Refused r }
 
-unfoldable pub refused : Exchange → Refusal → List ℕ → Asking
-refused x r room = asking (refusedBy x r) room
+unfoldable pub refused : Exchange → Refusal → List ℕ → Requesting
+refused x r room = requesting (refusedBy x r) room
 
 -- ---- the tests, a row of 01's table each
 
@@ -69,7 +70,7 @@ badFunction h f = not (eqb f 0) && not (eqb f (h .function + 1))
 
 -- 6: "data above 4,096 bytes"
 unfoldable pub dataLong : ℕ → Bool
-dataLong n = ltb 4096 n
+dataLong n = ltb messageLimit n
 
 -- 7: "a message is being sent or held"
 abbrev pub sendingBy : Sending → Bool
@@ -102,7 +103,7 @@ primaryHeader c q number = record {
 -- a primary of n data bytes takes a place and this number
 abbrev pub claimedAs : Terms → Exchange → ℕ → Primary → ℕ → ℕ → Exchange
 claimedAs c x p q n number = record {
-  own = withOwn (x .own) p (ownClaimed (ownPlace x p) (headerBytes (primaryHeader c q number)));
+  own = ownPut (x .own) p (ownClaimed (ownPlace x p) (headerBytes (primaryHeader c q number)));
   incoming = x .incoming;
   saved = x .saved;
   numbers = record { last = number; latest = x .numbers .latest };
@@ -113,16 +114,16 @@ unfoldable pub claimedAt : Terms → Exchange → ℕ → Primary → ℕ → Ex
 claimedAt c x p q n = claimedAs c x p q n (nextNumber (x .own) (x .numbers .last) (x .numbers .latest))
 
 -- 8: "all 4 own places in use"
-abbrev pub openBy : Found → Terms → Exchange → Primary → List ℕ → List ℕ → Asking
+abbrev pub openBy : Found → Terms → Exchange → Primary → List ℕ → List ℕ → Requesting
 openBy (At p) c x q d room =
-    asking (record { exchange = claimedAt c x p q (length d); asked = Taken p }) (keptIn room message.Send 0 d)
+    requesting (record { exchange = claimedAt c x p q (length d); asked = Taken p }) (keptIn room message.Send 0 d)
 openBy Nowhere c x q d room = refused x refusal.NoPlace room
 
-unfoldable pub openFree : Terms → Exchange → Primary → List ℕ → List ℕ → Asking
+unfoldable pub openFree : Terms → Exchange → Primary → List ℕ → List ℕ → Requesting
 openFree c x q d room = openBy (freeOwn (x .own)) c x q d room
 
 -- "5, 6, 7, 8"
-unfoldable pub openOf : Terms → Exchange → Primary → List ℕ → List ℕ → Asking
+unfoldable pub openOf : Terms → Exchange → Primary → List ℕ → List ℕ → Requesting
 openOf c x q d room =
     cond (badPrimary q) (refused x refusal.Message room)
     (cond (dataLong (length d)) (refused x refusal.DataLong room)
@@ -131,9 +132,9 @@ openOf c x q d room =
 
 -- ---- reply
 
-unfoldable pub replyAccepted : Exchange → ℕ → ℕ → List ℕ → List ℕ → Asking
+unfoldable pub replyAccepted : Exchange → ℕ → ℕ → List ℕ → List ℕ → Requesting
 replyAccepted x p f d room =
-    asking
+    requesting
     (record {
       exchange = withSending (putIncoming x p (incomingAnswered (incomingPlace x p))) (sending.Reply p f (length d));
       asked = Taken p;
@@ -141,7 +142,7 @@ replyAccepted x p f d room =
     (keptIn room message.Send 0 d)
 
 -- "5, 6, 7"
-unfoldable pub replyReady : Exchange → ℕ → ℕ → List ℕ → List ℕ → Asking
+unfoldable pub replyReady : Exchange → ℕ → ℕ → List ℕ → List ℕ → Requesting
 replyReady x p f d room =
     cond (badFunction (primaryOf (incomingPlace x p)) f) (refused x refusal.Message room)
     (cond (dataLong (length d)) (refused x refusal.DataLong room)
@@ -149,7 +150,7 @@ replyReady x p f d room =
     (replyAccepted x p f d room)))
 
 -- "9, 10, 11" before those
-unfoldable pub replyOf : Exchange → ℕ → ℕ → List ℕ → List ℕ → Asking
+unfoldable pub replyOf : Exchange → ℕ → ℕ → List ℕ → List ℕ → Requesting
 replyOf x p f d room =
     cond (notReady (incomingPlace x p)) (refused x refusal.Place room)
     (cond (not (primaryOf (incomingPlace x p) .w)) (refused x refusal.NotWanted room)
@@ -169,3 +170,25 @@ unfoldable pub releaseIncoming : Exchange → ℕ → Requested
 releaseIncoming x p =
     cond (notReady (incomingPlace x p)) (refusedBy x refusal.Place)
     (record { exchange = putIncoming x p (incomingReleased (incomingPlace x p)); asked = Taken p })
+
+-- ---- any request
+
+-- A primary, a reply, a release of an own or of an incoming place is asked for.
+pub data Request : Type 0 where
+  primary : Primary → (d : List ℕ) → Request
+  reply : (p f : ℕ) (d : List ℕ) → Request
+  free-own free-incoming : (p : ℕ) → Request
+
+-- what a request leaves; a release leaves the room as it is
+abbrev pub answerOf : Terms → Exchange → Request → List ℕ → Requesting
+answerOf c x (primary q d) room = openOf c x q d room
+answerOf c x (reply p f d) room = replyOf x p f d room
+answerOf c x (free-own p) room = requesting (releaseOwn x p) room
+answerOf c x (free-incoming p) room = requesting (releaseIncoming x p) room
+
+-- whether memory is lent to it: the data of a message to be sent goes into the room, a release is lent none
+abbrev pub lends : Request → Bool
+lends (primary q d) = true
+lends (reply p f d) = true
+lends (free-own p) = false
+lends (free-incoming p) = false

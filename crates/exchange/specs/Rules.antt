@@ -6,16 +6,18 @@ use mathlib.Core.Bool.{Bool, true, false, cond}
 use mathlib.Core.List.{List}
 use mathlib.Core.Logic.{_↔_, _⊎_, _≢_}
 use lib.ListN.{length}
+use Rattle.wire.specs.Message.{messageLimit}
 use Rattle.header.specs.Header.{headerOf}
 use Rattle.header.specs.declared.header.Header.{Header}
 use Rattle.settings.specs.declared.terms.Terms.{Terms}
 use Rattle.room.specs.Room.{keptIn}
 use Rattle.room.specs.declared.Message.the-variants as message
-use Rattle.place.specs.Message.{Routed, StartsMessage, Continues, LacksData}
-use Rattle.place.specs.Own.{primaryOf as ownPrimary, stageAt as ownStageAt, replyOf, replyHeader, ended, ownKept, verdictOf}
+use Rattle.place.specs.Arriving.{kindOf}
+use Rattle.place.specs.Message.{Routed, StartsMessage, Continuing, LacksData}
+use Rattle.place.specs.Own.{primaryOf as ownPrimary, stageAt as ownStageAt, replyOf, ended, ownKept, verdictOf}
 use Rattle.place.specs.Incoming.{primaryOf as incomingPrimary, stageAt as incomingStageAt, incomingLength}
 use Rattle.place.specs.declared.Verdict.the-variants.{Broken}
-use Rattle.place.specs.declared.Reply.{Reply}
+use Rattle.place.specs.declared.Arriving.{Arriving}
 use Rattle.place.specs.declared.OwnStage.the-variants as own
 use Rattle.place.specs.declared.Own.{Own}
 use Rattle.place.specs.declared.IncomingStage.the-variants as incoming
@@ -72,11 +74,11 @@ pub data OfReply (o : Own) (b : Header) : Type 0 where
   -- "the first block of an awaited reply (same system bytes, even function, number 1, or 0 with E = 1)"
   first : (timer : ℕ) → o .stage ≡ own.Awaiting timer → b .system ≡ ownPrimary o .system → b .function % 2 ≡ 0 → StartsMessage b → OfReply o b
   -- "Continues an open message (device ID, system bytes, W, stream, function and next number)"
-  further : (timer next : ℕ) (r : Reply) → o .stage ≡ own.Replying timer next r → Continues (replyHeader (ownPrimary o) r) next b → OfReply o b
+  further : (a : Arriving) → o .stage ≡ own.Replying a → Continuing (ownPrimary o .device) (ownPrimary o .system) (a .next) (a .kind) b → OfReply o b
 
 -- a further block of a message of the far end that is open
 pub data OfMessage (i : Incoming) (b : Header) : Type 0 where
-  goes-on : (timer next n : ℕ) → i .stage ≡ incoming.Open timer next n → Continues (incomingPrimary i) next b → OfMessage i b
+  goes-on : (a : Arriving) → i .stage ≡ incoming.Open a → Continuing (incomingPrimary i .device) (incomingPrimary i .system) (a .next) (a .kind) b → OfMessage i b
 
 -- "it must begin a primary: odd function, same number rule"
 pub record Begins (b : Header) : Type 0 where
@@ -150,12 +152,12 @@ pub data Ruled (c : Terms) (x : Exchange) (h d : List ℕ) : ℕ → Type 0 wher
   -- 4: "E = 0, or number above 1, with no data: note 27."
   empty : New c x h → Expected x (headerOf h) → LacksData (headerOf h) (length d) → Ruled c x h d 27
   -- 5: "Total data above 4,096: note 26"
-  too-long : New c x h → Expected x (headerOf h) → (LacksData (headerOf h) (length d) → ⊥) → 4096 < total x h d → Ruled c x h d 26
+  too-long : New c x h → Expected x (headerOf h) → (LacksData (headerOf h) (length d) → ⊥) → messageLimit < total x h d → Ruled c x h d 26
   -- 6: "note 25 exactly if all four are in use", and the block's message is in none of them
-  no-place : New c x h → Expected x (headerOf h) → (LacksData (headerOf h) (length d) → ⊥) → total x h d ≤ 4096
+  no-place : New c x h → Expected x (headerOf h) → (LacksData (headerOf h) (length d) → ⊥) → total x h d ≤ messageLimit
       → (HasPlace x (headerOf h) → ⊥) → Ruled c x h d 25
   -- 7: "Kept: note 21."
-  kept : New c x h → Expected x (headerOf h) → (LacksData (headerOf h) (length d) → ⊥) → total x h d ≤ 4096
+  kept : New c x h → Expected x (headerOf h) → (LacksData (headerOf h) (length d) → ⊥) → total x h d ≤ messageLimit
       → HasPlace x (headerOf h) → Ruled c x h d 21
 
 abbrev pub noted : Judging → ℕ
@@ -206,11 +208,15 @@ pub record NewPrimary (c : Terms) (x : Exchange) (h d : List ℕ) : Type 0 where
   pub no-message : MessageHere x (headerOf h) → ⊥
   pub begins : Begins (headerOf h)
   pub has-data : LacksData (headerOf h) (length d) → ⊥
-  pub fits : length d ≤ 4096
+  pub fits : length d ≤ messageLimit
+
+-- a message of which a block with E = 0 is kept, n data bytes in all: "T4 restarts", and the next number is awaited
+abbrev pub openFrom : Header → ℕ → Arriving
+openFrom h n = record { timer = 0; next = h .number + 1; kind = kindOf h; length = n }
 
 -- the place with the first block of a primary, n data bytes: complete with E = 1; else T4 runs from 0 and the next number is awaited
 abbrev pub begunWith : Header → ℕ → Incoming
-begunWith h n = record { header = h; stage = cond (h .e) (incoming.Complete n) (incoming.Open 0 (h .number + 1) n) }
+begunWith h n = record { header = h; stage = cond (h .e) (incoming.Complete n) (incoming.Open (openFrom h n)) }
 
 -- all that it leaves in place p: `gone` is whether an open message is thrown out, which raises a flag, as its completion does
 abbrev pub begunIn : Exchange → ℕ → List ℕ → Bool → List ℕ → List ℕ → Judging
@@ -234,12 +240,12 @@ PlaceTaken = (c : Terms) (x : Exchange) (h d room : List ℕ) → Fours x → Ne
 
 -- the block is noted 27 or 26
 abbrev pub Spoils : Header → ℕ → List ℕ → Type 0
-Spoils b have d = LacksData b (length d) ⊎ (4096 < have + length d)
+Spoils b have d = LacksData b (length d) ⊎ (messageLimit < have + length d)
 
 -- it is kept
 pub record Fits (b : Header) (have : ℕ) (d : List ℕ) : Type 0 where
   pub has-data : LacksData b (length d) → ⊥
-  pub fits : have + length d ≤ 4096
+  pub fits : have + length d ≤ messageLimit
 
 -- the reply in own place p, of which `have` bytes are kept
 pub record ReplyGoes (x : Exchange) (h d room : List ℕ) (p have : ℕ) (j : Judging) : Type 0 where
@@ -255,7 +261,7 @@ pub record ReplyGoes (x : Exchange) (h d room : List ℕ) (p have : ℕ) (j : Ju
   pub more :
       Fits (headerOf h) have d → headerOf h .e ≡ false
       → Comes j
-      (putOwn (savedNow x h) p (ownStageAt (ownPlace x p) (own.Replying 0 (headerOf h .number + 1) (replyOf (headerOf h) (have + length d)))))
+      (putOwn (savedNow x h) p (ownStageAt (ownPlace x p) (own.Replying (openFrom (headerOf h) (have + length d)))))
       noFlags (keptIn room (message.Reply p) have d)
 
 abbrev pub ReplyBlock : Type 0
@@ -277,7 +283,7 @@ pub record MessageGoes (x : Exchange) (h d room : List ℕ) (p have : ℕ) (j : 
   -- "With E = 0, T4 restarts."
   pub more :
       Fits (headerOf h) have d → headerOf h .e ≡ false
-      → Comes j (putIncoming (savedNow x h) p (incomingStageAt (incomingPlace x p) (incoming.Open 0 (headerOf h .number + 1) (have + length d)))) noFlags
+      → Comes j (putIncoming (savedNow x h) p (incomingStageAt (incomingPlace x p) (incoming.Open (openFrom (headerOf h) (have + length d))))) noFlags
       (keptIn room (message.Incoming p) have d)
 
 abbrev pub MessageBlock : Type 0

@@ -11,7 +11,7 @@ use Rattle.exchange.specs.Exchange.{ownPlace, incomingPlace, gotVerdict,
 use Rattle.exchange.specs.declared.Sending.{Sending}
 use Rattle.exchange.specs.declared.Sending.the-variants.{Nothing, Primary, Reply}
 use Rattle.exchange.specs.declared.Exchange.{Exchange}
-use Rattle.exchange.specs.declared.Told.{Told}
+use Rattle.exchange.specs.declared.Changed.{Changed}
 use Rattle.exchange.specs.declared.Outgoing.{Outgoing}
 use Rattle.exchange.specs.declared.Outgoing.the-variants as outgoing
 
@@ -36,31 +36,32 @@ outgoingAt (Reply p f n) x = outgoing.Message (replyTo (incomingPrimary (incomin
 abbrev pub outgoingOf : Exchange → Outgoing
 outgoingOf x = outgoingAt (x .sending) x
 
-abbrev pub told : Exchange → Told
-told x = record { exchange = x; flags = noFlags }
+-- with no flag raised
+abbrev pub unflagged : Exchange → Changed
+unflagged x = record { exchange = x; flags = noFlags }
 
 -- the sending of a primary is over
-unfoldable pub endedOwn : Exchange → ℕ → Own → Told
+unfoldable pub endedOwn : Exchange → ℕ → Own → Changed
 endedOwn x p o = record { exchange = withSending (putOwn x p o) Nothing; flags = verdictFlag p (gotVerdict (ownPlace x p) o) }
 
 -- the sending of a reply is over: that raises no flag
-unfoldable pub endedReply : Exchange → ℕ → Incoming → Told
-endedReply x p i = told (withSending (putIncoming x p i) Nothing)
+unfoldable pub endedReply : Exchange → ℕ → Incoming → Changed
+endedReply x p i = unflagged (withSending (putIncoming x p i) Nothing)
 
-abbrev pub sentBy : Sending → Exchange → Told
-sentBy Nothing x = told x
+abbrev pub sentBy : Sending → Exchange → Changed
+sentBy Nothing x = unflagged x
 sentBy (Primary p n) x = endedOwn x p (ownSent (ownPlace x p))
 sentBy (Reply p f n) x = endedReply x p (incomingSent (incomingPlace x p))
 
 -- the last block of the message being sent was acknowledged
-abbrev pub sentOf : Exchange → Told
+abbrev pub sentOf : Exchange → Changed
 sentOf x = sentBy (x .sending) x
 
-abbrev pub failedBy : Sending → Exchange → Told
-failedBy Nothing x = told x
+abbrev pub failedBy : Sending → Exchange → Changed
+failedBy Nothing x = unflagged x
 failedBy (Primary p n) x = endedOwn x p (ownFailed (ownPlace x p))
 failedBy (Reply p f n) x = endedReply x p (incomingFailed (incomingPlace x p))
 
 -- a block of it failed
-abbrev pub failedOf : Exchange → Told
+abbrev pub failedOf : Exchange → Changed
 failedOf x = failedBy (x .sending) x

@@ -1,5 +1,6 @@
 -- What is proved of the transactions over every list of calls from a fresh start (`specs/History.antt`). Each proof is in `proofs/`.
--- The rules of judging are in `specs/Rules.antt`, the refusals in `specs/Refusals.antt`, the transaction numbers in `specs/Numbers.antt`.
+-- The rules of judging are in `specs/Rules.antt`, the refusals in `specs/Refusals.antt`, the transaction numbers in `specs/Numbers.antt`,
+-- what is being sent in `specs/BeingSent.antt` and `specs/Underway.antt`, what stays until a release in `specs/Releases.antt`.
 use Prim.Native.Nat.{ℕ, _≤_, _<_}
 use mathlib.Core.Path.{_≡_}
 use mathlib.Core.Bool.{Bool, true, false, not, _&&_}
@@ -64,7 +65,7 @@ abbrev pub hasReply : OwnStage → Bool
 hasReply stage.Free = false
 hasReply stage.Sending = false
 hasReply (stage.Awaiting timer) = false
-hasReply (stage.Replying timer next r) = true
+hasReply (stage.Replying a) = true
 hasReply (stage.Done v r) = byVerdict v
 
 -- the length of the message being sent, and whether there is one

@@ -15,7 +15,7 @@ use Rattle.table.specs.Incoming.{incomingAt, tickedIncoming}
 use Rattle.exchange.specs.Flags.{noMarks, noFlags}
 use Rattle.exchange.specs.Exchange.{gotVerdict, latestAfter}
 use Rattle.exchange.specs.declared.Exchange.{Exchange}
-use Rattle.exchange.specs.declared.Told.{Told}
+use Rattle.exchange.specs.declared.Changed.{Changed}
 
 -- which own places got their verdict
 abbrev pub gotMarks : List Own → List Own → List Bool
@@ -40,7 +40,7 @@ goneMarks is js =
     wasDropped (incomingAt is 0) (incomingAt js 0) ∷ wasDropped (incomingAt is 1) (incomingAt js 1)
     ∷ wasDropped (incomingAt is 2) (incomingAt js 2) ∷ wasDropped (incomingAt is 3) (incomingAt js 3) ∷ []
 
-unfoldable pub tickOf : Terms → Exchange → Told
+unfoldable pub tickOf : Terms → Exchange → Changed
 tickOf c x = record {
   exchange = record {
     own = tickedOwn c (x .own);
@@ -63,7 +63,7 @@ abbrev pub timedAt : OwnStage → Bool
 timedAt own.Free = false
 timedAt own.Sending = false
 timedAt (own.Awaiting timer) = true
-timedAt (own.Replying timer next r) = true
+timedAt (own.Replying a) = true
 timedAt (own.Done v r) = false
 
 abbrev pub ownTimed : Own → Bool

@@ -22,8 +22,8 @@ use Rattle.table.specs.declared.Found.{Found}
 use Rattle.table.specs.declared.Found.the-variants.{At, Nowhere}
 use Rattle.exchange.specs.Exchange.{ownPlace, incomingPlace}
 use Rattle.exchange.specs.Judge.{judgeOf}
-use Rattle.exchange.specs.Request.{primaryHeader, openOf, releaseOwn, releaseIncoming}
-use Rattle.exchange.specs.History.{Call, block, tick, acknowledged, failed, primary, reply, free-own, free-incoming, called, Track, next, track, atStart}
+use Rattle.exchange.specs.Request.{primaryHeader, Request, primary, reply, free-own, free-incoming, answerOf}
+use Rattle.exchange.specs.History.{Call, block, tick, acknowledged, failed, request, called, Track, next, track, atStart}
 use Rattle.exchange.specs.declared.Note.{Note}
 use Rattle.exchange.specs.declared.Note.the-variants.{Kept, Misrouted, Duplicate, Stray, NoPlace, TooLong, Empty}
 use Rattle.exchange.specs.declared.Exchange.{Exchange}
@@ -62,14 +62,26 @@ sentFrom sending.Nothing p = false
 sentFrom (sending.Primary q n) p = eqb q p
 sentFrom (sending.Reply q f n) p = false
 
+-- it is the reply of incoming place p
+abbrev pub replyFrom : Sending → ℕ → Bool
+replyFrom sending.Nothing p = false
+replyFrom (sending.Primary q n) p = false
+replyFrom (sending.Reply q f n) p = eqb q p
+
 -- ---- the onlooker of own place p
 
 -- the header of a primary that is accepted: what was asked for, and the number that it gets
 abbrev pub acceptedAs : Terms → Exchange → Primary → Header
 acceptedAs c x q = headerOf (headerBytes (primaryHeader c q (nextNumber (x .own) (x .numbers .last) (x .numbers .latest))))
 
--- a block of its reply was judged; 0.1 s passed; its primary's last block was acknowledged, a block of it failed; a primary was
--- accepted there; its release was accepted
+-- what is asked for was accepted for the place of this number: a primary, or its release; the others are for an incoming place
+abbrev pub ownTaken : Terms → Exchange → own.Seen → Request → own.Seen
+ownTaken c x s (primary q d) = own.asked (s .request) s (acceptedAs c x q)
+ownTaken c x s (reply q f d) = s
+ownTaken c x s (free-own q) = own.at s own.none
+ownTaken c x s (free-incoming q) = s
+
+-- a block of its reply was judged; 0.1 s passed; its primary's last block was acknowledged, a block of it failed; something was asked for
 abbrev pub ownSees : Terms → ℕ → Exchange → List ℕ → own.Seen → Call → own.Seen
 ownSees c p x room s (block h d) =
     cond (foundAt (replyFor (x .own) (headerOf h)) p)
@@ -78,10 +90,7 @@ ownSees c p x room s tick =
     record { request = s .request; header = s .header; kept = s .kept; bytes = s .bytes; spoilt = s .spoilt; since = s .since + 1; quiet = s .quiet + 1 }
 ownSees c p x room s acknowledged = cond (sentFrom (x .sending) p) (own.acked (s .request) s) s
 ownSees c p x room s failed = cond (sentFrom (x .sending) p) (own.gaveUp (s .request) s) s
-ownSees c p x room s (primary q d) = cond (takenAt (openOf c x q d room .answer .asked) p) (own.asked (s .request) s (acceptedAs c x q)) s
-ownSees c p x room s (reply q f d) = s
-ownSees c p x room s (free-own q) = cond (takenAt (releaseOwn x q .asked) p) (own.at s own.none) s
-ownSees c p x room s (free-incoming q) = s
+ownSees c p x room s (request r) = cond (takenAt (answerOf c x r room .answer .asked) p) (ownTaken c x s r) s
 
 -- ---- the onlooker of incoming place p
 
@@ -101,7 +110,14 @@ seesBlock Nowhere Nowhere new p a s b size = cond (foundAt new p) (incoming.sees
 abbrev pub freedSeen : incoming.Seen → incoming.Seen
 freedSeen s = record { begun = false; kept = s .kept; bytes = s .bytes; spoilt = s .spoilt; quiet = s .quiet }
 
--- a block of its message was judged; 0.1 s passed; its release was accepted. Of our reply to it nothing is seen
+-- what is asked for was accepted for the place of this number: its release; of our reply nothing is seen, the others are for an own place
+abbrev pub incomingTaken : incoming.Seen → Request → incoming.Seen
+incomingTaken s (primary q d) = s
+incomingTaken s (reply q f d) = s
+incomingTaken s (free-own q) = s
+incomingTaken s (free-incoming q) = freedSeen s
+
+-- a block of its message was judged; 0.1 s passed; something was asked for
 abbrev pub incomingSees : Terms → ℕ → Exchange → List ℕ → incoming.Seen → Call → incoming.Seen
 incomingSees c p x room s (block h d) =
     seesBlock (replyFor (x .own) (headerOf h)) (messageFor (x .incoming) (headerOf h))
@@ -110,11 +126,7 @@ incomingSees c p x room s (block h d) =
 incomingSees c p x room s tick = record { begun = s .begun; kept = s .kept; bytes = s .bytes; spoilt = s .spoilt; quiet = s .quiet + 1 }
 incomingSees c p x room s acknowledged = s
 incomingSees c p x room s failed = s
-incomingSees c p x room s (primary q d) = s
-incomingSees c p x room s (reply q f d) = s
-incomingSees c p x room s (free-own q) = s
-incomingSees c p x room s (free-incoming q) =
-    cond (takenAt (releaseIncoming x q .asked) p) (freedSeen s) s
+incomingSees c p x room s (request r) = cond (takenAt (answerOf c x r room .answer .asked) p) (incomingTaken s r) s
 
 -- ---- one call
 

@@ -86,7 +86,7 @@ pub struct Flags {
 }
 
 // What a tick, or the end of a send, leaves: the next state, and flags.
-pub struct Told {
+pub struct Changed {
     pub exchange: Exchange,
     pub flags: Flags,
 }

@@ -1,12 +1,10 @@
 // What becomes of a block of a message (01, "A block that goes up is judged in this order"): the same for a reply to us and for
 // a message of the far end.
 ghost use mathlib.Core.Path.{_≡_};
-ghost use Rattle.place.specs.Fate.{beginsPrimary, beginsReply, continuesOf, fateOf, lacksData, startsMessage};
+ghost use Rattle.place.specs.Fate.{beginsPrimary, beginsReply, fateOf, lacksData, startsMessage};
 use header::Header;
 use place::Fate;
-
-// The most data bytes of a message (01, rule 5).
-const MESSAGE_LIMIT: usize = 4096;
+use wire::MESSAGE_LIMIT;
 
 // Whether the block can be a message's first: "number 1, or 0 with E = 1".
 fn starts_message(header: Header) -> bool
@@ -37,43 +35,6 @@ pub(crate) fn begins_reply(header: Header) -> bool
 {
     if header.function % 2 == 0 {
         return starts_message(header);
-    }
-    false
-}
-
-// Whether two bits are the same.
-fn same_bit(a: bool, b: bool) -> bool
-    ensures { λ r. ⌜ r ≡ Rattle.place.specs.Fate.sameBit a b ⌝ }
-{
-    if a {
-        if b { true } else { false }
-    } else {
-        if b { false } else { true }
-    }
-}
-
-// Whether a header has W, stream and function of another.
-fn same_kind(a: Header, b: Header) -> bool
-    ensures { λ r. ⌜ r ≡ Rattle.place.specs.Fate.sameKind a b ⌝ }
-{
-    if a.stream == b.stream {
-        if a.function == b.function {
-            return same_bit(a.w, b.w);
-        }
-    }
-    false
-}
-
-// Whether the block is the next one of an open message, whose header at any block is `message`.
-pub(crate) fn continues(message: Header, next: u32, header: Header) -> bool
-    ensures { λ r. ⌜ r ≡ continuesOf message next header ⌝ }
-{
-    if message.device == header.device {
-        if message.system == header.system {
-            if header.number as u32 == next {
-                return same_kind(message, header);
-            }
-        }
     }
     false
 }

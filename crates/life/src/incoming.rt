@@ -1,15 +1,16 @@
 // A place of a message of the far end (E4 7.4): from its first block until it is released or dropped.
 ghost use mathlib.Core.Path.{_≡_};
-ghost use Rattle.place.specs.Incoming.{begunBy, freshIncoming, incomingAnswered, incomingBegun, incomingFailed, incomingIsComplete, incomingIsFree, incomingIsOpen, incomingIsReplied, incomingLength, incomingOffered, incomingReleased, incomingSent, incomingTakes, incomingTick, keptBy, openTick, primaryOf, stageAt};
-use crate::fate::continues;
+ghost use Rattle.place.specs.Incoming.{begunBy, continuesHere, freshIncoming, incomingAnswered, incomingBegun, incomingFailed, incomingIsComplete, incomingIsFree, incomingIsOpen, incomingIsReplied, incomingLength, incomingOffered, incomingReleased, incomingSent, incomingTakes, incomingTick, keptBy, openTick, primaryOf, stageAt};
+use crate::arriving;
 use crate::fate::fate_of;
 use header::Header;
+use place::Arriving;
 use place::End;
 use place::Fate;
 use place::Incoming;
 use place::IncomingStage;
+use place::Waited;
 use settings::Terms;
-use settings::Timer;
 
 pub fn fresh() -> Incoming
     ensures { λ r. ⌜ r ≡ freshIncoming ⌝ }
@@ -50,11 +51,7 @@ pub fn length(incoming: Incoming) -> u16
     let stage = incoming.stage;
     match stage {
         IncomingStage::Free => 0,
-        IncomingStage::Open {
-            timer: _,
-            next: _,
-            length,
-        } => length,
+        IncomingStage::Open(arriving) => arriving.length,
         IncomingStage::Complete { length } => length,
         IncomingStage::Replying { length } => length,
         IncomingStage::Replied { length, end: _ } => length,
@@ -67,11 +64,7 @@ pub fn is_free(incoming: Incoming) -> bool
     let stage = incoming.stage;
     match stage {
         IncomingStage::Free => true,
-        IncomingStage::Open {
-            timer: _,
-            next: _,
-            length: _,
-        } => false,
+        IncomingStage::Open(_) => false,
         IncomingStage::Complete { length: _ } => false,
         IncomingStage::Replying { length: _ } => false,
         IncomingStage::Replied { length: _, end: _ } => false,
@@ -85,11 +78,7 @@ pub fn is_open(incoming: Incoming) -> bool
     let stage = incoming.stage;
     match stage {
         IncomingStage::Free => false,
-        IncomingStage::Open {
-            timer: _,
-            next: _,
-            length: _,
-        } => true,
+        IncomingStage::Open(_) => true,
         IncomingStage::Complete { length: _ } => false,
         IncomingStage::Replying { length: _ } => false,
         IncomingStage::Replied { length: _, end: _ } => false,
@@ -103,11 +92,7 @@ pub fn is_complete(incoming: Incoming) -> bool
     let stage = incoming.stage;
     match stage {
         IncomingStage::Free => false,
-        IncomingStage::Open {
-            timer: _,
-            next: _,
-            length: _,
-        } => false,
+        IncomingStage::Open(_) => false,
         IncomingStage::Complete { length: _ } => true,
         IncomingStage::Replying { length: _ } => false,
         IncomingStage::Replied { length: _, end: _ } => false,
@@ -121,11 +106,7 @@ pub fn is_replied(incoming: Incoming) -> bool
     let stage = incoming.stage;
     match stage {
         IncomingStage::Free => false,
-        IncomingStage::Open {
-            timer: _,
-            next: _,
-            length: _,
-        } => false,
+        IncomingStage::Open(_) => false,
         IncomingStage::Complete { length: _ } => false,
         IncomingStage::Replying { length: _ } => false,
         IncomingStage::Replied { length: _, end: _ } => true,
@@ -133,8 +114,8 @@ pub fn is_replied(incoming: Incoming) -> bool
 }
 
 // The first block of a primary has met its fate; one that is not kept takes no place.
-fn begun_by(incoming: Incoming, header: Header, number: u16, fate: Fate) -> Incoming
-    ensures { λ r. ⌜ r ≡ begunBy incoming header number fate ⌝ }
+fn begun_by(incoming: Incoming, header: Header, fate: Fate) -> Incoming
+    ensures { λ r. ⌜ r ≡ begunBy incoming header fate ⌝ }
 {
     match fate {
         Fate::Empty => incoming,
@@ -145,11 +126,7 @@ fn begun_by(incoming: Incoming, header: Header, number: u16, fate: Fate) -> Inco
         },
         Fate::More(length) => Incoming {
             header,
-            stage: IncomingStage::Open {
-                timer: 0,
-                next: number as u32 + 1,
-                length,
-            },
+            stage: IncomingStage::Open(arriving::from(header, length)),
         },
     }
 }
@@ -157,7 +134,7 @@ fn begun_by(incoming: Incoming, header: Header, number: u16, fate: Fate) -> Inco
 fn begin(incoming: Incoming, header: Header, size: usize) -> Incoming
     ensures { λ r. ⌜ r ≡ Rattle.place.specs.Incoming.begins incoming header size ⌝ }
 {
-    begun_by(incoming, header, header.number, fate_of(header, 0, size))
+    begun_by(incoming, header, fate_of(header, 0, size))
 }
 
 // A primary with this first block begins here: in a free place, or instead of an open message that it throws out.
@@ -167,30 +144,19 @@ pub fn begun(incoming: Incoming, header: Header, size: usize) -> Incoming
     let stage = incoming.stage;
     match stage {
         IncomingStage::Free => begin(incoming, header, size),
-        IncomingStage::Open {
-            timer: _,
-            next: _,
-            length: _,
-        } => begin(incoming, header, size),
+        IncomingStage::Open(_) => begin(incoming, header, size),
         IncomingStage::Complete { length: _ } => incoming,
         IncomingStage::Replying { length: _ } => incoming,
         IncomingStage::Replied { length: _, end: _ } => incoming,
     }
 }
 
-fn open_tick(incoming: Incoming, terms: Terms, timer: u32, next: u32, length: u16) -> Incoming
-    ensures { λ r. ⌜ r ≡ openTick terms incoming timer next length ⌝ }
+fn open_tick(incoming: Incoming, terms: Terms, arriving: Arriving) -> Incoming
+    ensures { λ r. ⌜ r ≡ openTick terms incoming arriving ⌝ }
 {
-    match terms.t4.tick(timer) {
-        Timer::RunsOut => at(incoming, IncomingStage::Free),
-        Timer::Runs(timer) => at(
-            incoming,
-            IncomingStage::Open {
-                timer,
-                next,
-                length,
-            },
-        ),
+    match arriving::tick(arriving, terms) {
+        Waited::Broken => at(incoming, IncomingStage::Free),
+        Waited::Still(arriving) => at(incoming, IncomingStage::Open(arriving)),
     }
 }
 
@@ -201,15 +167,19 @@ pub fn tick(incoming: Incoming, terms: Terms) -> Incoming
     let stage = incoming.stage;
     match stage {
         IncomingStage::Free => incoming,
-        IncomingStage::Open {
-            timer,
-            next,
-            length,
-        } => open_tick(incoming, terms, timer, next, length),
+        IncomingStage::Open(arriving) => open_tick(incoming, terms, arriving),
         IncomingStage::Complete { length: _ } => incoming, // it waits for its user
         IncomingStage::Replying { length: _ } => incoming,
         IncomingStage::Replied { length: _, end: _ } => incoming,
     }
+}
+
+// Whether a block continues the open message, which has device ID and system bytes of its first block.
+fn continues_here(incoming: Incoming, arriving: Arriving, header: Header) -> bool
+    ensures { λ r. ⌜ r ≡ continuesHere incoming arriving header ⌝ }
+{
+    let primary = primary(incoming);
+    arriving::continues(arriving, primary.device, primary.system, header)
 }
 
 // Rule 3: whether a block is for this place.
@@ -219,11 +189,7 @@ pub fn takes(incoming: Incoming, header: Header) -> bool
     let stage = incoming.stage;
     match stage {
         IncomingStage::Free => false,
-        IncomingStage::Open {
-            timer: _,
-            next,
-            length: _,
-        } => continues(primary(incoming), next, header),
+        IncomingStage::Open(arriving) => continues_here(incoming, arriving, header),
         IncomingStage::Complete { length: _ } => false,
         IncomingStage::Replying { length: _ } => false,
         IncomingStage::Replied { length: _, end: _ } => false,
@@ -231,8 +197,8 @@ pub fn takes(incoming: Incoming, header: Header) -> bool
 }
 
 // A block of the message has met its fate. "A broken incoming message frees its place."
-fn kept_by(incoming: Incoming, number: u16, fate: Fate) -> Incoming
-    ensures { λ r. ⌜ r ≡ keptBy incoming number fate ⌝ }
+fn kept_by(incoming: Incoming, header: Header, fate: Fate) -> Incoming
+    ensures { λ r. ⌜ r ≡ keptBy incoming header fate ⌝ }
 {
     match fate {
         Fate::Empty => at(incoming, IncomingStage::Free),
@@ -240,11 +206,7 @@ fn kept_by(incoming: Incoming, number: u16, fate: Fate) -> Incoming
         Fate::Last(length) => at(incoming, IncomingStage::Complete { length }),
         Fate::More(length) => at(
             incoming,
-            IncomingStage::Open {
-                timer: 0, // T4 restarts
-                next: number as u32 + 1,
-                length,
-            },
+            IncomingStage::Open(arriving::from(header, length)),
         ),
     }
 }
@@ -254,11 +216,7 @@ pub fn offered(incoming: Incoming, header: Header, size: usize) -> Incoming
     ensures { λ r. ⌜ r ≡ incomingOffered incoming header size ⌝ }
 {
     if takes(incoming, header) {
-        return kept_by(
-            incoming,
-            header.number,
-            fate_of(header, length(incoming), size),
-        );
+        return kept_by(incoming, header, fate_of(header, length(incoming), size));
     }
     incoming
 }
@@ -270,11 +228,7 @@ pub fn answered(incoming: Incoming) -> Incoming
     let stage = incoming.stage;
     match stage {
         IncomingStage::Free => incoming,
-        IncomingStage::Open {
-            timer: _,
-            next: _,
-            length: _,
-        } => incoming,
+        IncomingStage::Open(_) => incoming,
         IncomingStage::Complete { length } => at(incoming, IncomingStage::Replying { length }),
         IncomingStage::Replying { length: _ } => incoming,
         IncomingStage::Replied { length: _, end: _ } => incoming, // one reply is all
@@ -288,11 +242,7 @@ pub fn sent(incoming: Incoming) -> Incoming
     let stage = incoming.stage;
     match stage {
         IncomingStage::Free => incoming,
-        IncomingStage::Open {
-            timer: _,
-            next: _,
-            length: _,
-        } => incoming,
+        IncomingStage::Open(_) => incoming,
         IncomingStage::Complete { length: _ } => incoming,
         IncomingStage::Replying { length } => at(
             incoming,
@@ -312,11 +262,7 @@ pub fn failed(incoming: Incoming) -> Incoming
     let stage = incoming.stage;
     match stage {
         IncomingStage::Free => incoming,
-        IncomingStage::Open {
-            timer: _,
-            next: _,
-            length: _,
-        } => incoming,
+        IncomingStage::Open(_) => incoming,
         IncomingStage::Complete { length: _ } => incoming,
         IncomingStage::Replying { length } => at(
             incoming,
@@ -336,11 +282,7 @@ pub fn released(incoming: Incoming) -> Incoming
     let stage = incoming.stage;
     match stage {
         IncomingStage::Free => incoming,
-        IncomingStage::Open {
-            timer: _,
-            next: _,
-            length: _,
-        } => incoming,
+        IncomingStage::Open(_) => incoming,
         IncomingStage::Complete { length: _ } => at(incoming, IncomingStage::Free),
         IncomingStage::Replying { length: _ } => incoming,
         IncomingStage::Replied { length: _, end: _ } => at(incoming, IncomingStage::Free),

@@ -1,16 +1,18 @@
 // A place of an own transaction (E4 7.3): from the primary's acceptance to the release of its verdict.
 ghost use mathlib.Core.Path.{_≡_};
-ghost use Rattle.place.specs.Own.{acknowledged, awaitTick, freshOwn, noReply, ownClaimed, ownFailed, ownHasVerdict, ownIsFree, ownKept, ownOffered, ownReleased, ownSent, ownStanding, ownTakes, ownTick, primaryOf, repliedBy, replyHeader, replyOf, replyTick, stageAt, verdictOf};
+ghost use Rattle.place.specs.Own.{acknowledged, awaitTick, continuesReply, freshOwn, noReply, ownClaimed, ownFailed, ownHasVerdict, ownIsFree, ownKept, ownOffered, ownReleased, ownSent, ownStanding, ownTakes, ownTick, primaryOf, repliedBy, replyFrom, replyOf, replyTick, stageAt, verdictOf};
+use crate::arriving;
 use crate::fate::begins_reply;
-use crate::fate::continues;
 use crate::fate::fate_of;
 use header::Header;
+use place::Arriving;
 use place::Fate;
 use place::Own;
 use place::OwnStage;
 use place::Reply;
 use place::Standing;
 use place::Verdict;
+use place::Waited;
 use settings::Terms;
 use settings::Timer;
 
@@ -45,19 +47,16 @@ fn reply_of(header: Header, length: u16) -> Reply
     }
 }
 
-// What all blocks of the reply to this primary share: its device ID and system bytes, and the reply's W, stream and function.
-fn reply_header(reply: Reply, primary: Header) -> Header
-    ensures { λ r. ⌜ r ≡ replyHeader primary reply ⌝ }
+// What is known of one that is arriving.
+fn reply_from(arriving: Arriving) -> Reply
+    ensures { λ r. ⌜ r ≡ replyFrom arriving ⌝ }
 {
-    Header {
-        r: primary.r,
-        device: primary.device,
-        w: reply.w,
-        stream: reply.stream,
-        function: reply.function,
-        e: false,
-        number: 0,
-        system: primary.system,
+    let kind = arriving.kind;
+    Reply {
+        w: kind.w,
+        stream: kind.stream,
+        function: kind.function,
+        length: arriving.length,
     }
 }
 
@@ -109,11 +108,7 @@ pub fn standing(own: Own) -> Standing
         OwnStage::Free => Standing::Free,
         OwnStage::Sending => Standing::Open,
         OwnStage::Awaiting { timer: _ } => Standing::Open,
-        OwnStage::Replying {
-            timer: _,
-            next: _,
-            reply: _,
-        } => Standing::Open,
+        OwnStage::Replying(_) => Standing::Open,
         OwnStage::Done { verdict, reply: _ } => Standing::Given(verdict),
     }
 }
@@ -147,11 +142,7 @@ pub fn reply(own: Own) -> Reply
         OwnStage::Free => no_reply(),
         OwnStage::Sending => no_reply(),
         OwnStage::Awaiting { timer: _ } => no_reply(),
-        OwnStage::Replying {
-            timer: _,
-            next: _,
-            reply,
-        } => reply,
+        OwnStage::Replying(arriving) => reply_from(arriving),
         OwnStage::Done { verdict: _, reply } => reply,
     }
 }
@@ -168,11 +159,7 @@ pub fn claimed(own: Own, header: [u8; 10]) -> Own
         },
         OwnStage::Sending => own,
         OwnStage::Awaiting { timer: _ } => own,
-        OwnStage::Replying {
-            timer: _,
-            next: _,
-            reply: _,
-        } => own,
+        OwnStage::Replying(_) => own,
         OwnStage::Done {
             verdict: _,
             reply: _,
@@ -201,11 +188,7 @@ pub fn sent(own: Own) -> Own
         OwnStage::Free => own,
         OwnStage::Sending => acknowledged(own),
         OwnStage::Awaiting { timer: _ } => own,
-        OwnStage::Replying {
-            timer: _,
-            next: _,
-            reply: _,
-        } => own,
+        OwnStage::Replying(_) => own,
         OwnStage::Done {
             verdict: _,
             reply: _,
@@ -222,11 +205,7 @@ pub fn failed(own: Own) -> Own
         OwnStage::Free => own,
         OwnStage::Sending => ended(own, Verdict::SendFailed),
         OwnStage::Awaiting { timer: _ } => own,
-        OwnStage::Replying {
-            timer: _,
-            next: _,
-            reply: _,
-        } => own,
+        OwnStage::Replying(_) => own,
         OwnStage::Done {
             verdict: _,
             reply: _,
@@ -243,12 +222,12 @@ fn await_tick(own: Own, terms: Terms, timer: u32) -> Own
     }
 }
 
-fn reply_tick(own: Own, terms: Terms, timer: u32, next: u32, reply: Reply) -> Own
-    ensures { λ r. ⌜ r ≡ replyTick terms own timer next reply ⌝ }
+fn reply_tick(own: Own, terms: Terms, arriving: Arriving) -> Own
+    ensures { λ r. ⌜ r ≡ replyTick terms own arriving ⌝ }
 {
-    match terms.t4.tick(timer) {
-        Timer::RunsOut => ended(own, Verdict::Broken),
-        Timer::Runs(timer) => at(own, OwnStage::Replying { timer, next, reply }),
+    match arriving::tick(arriving, terms) {
+        Waited::Broken => ended(own, Verdict::Broken),
+        Waited::Still(arriving) => at(own, OwnStage::Replying(arriving)),
     }
 }
 
@@ -261,7 +240,7 @@ pub fn tick(own: Own, terms: Terms) -> Own
         OwnStage::Free => own,
         OwnStage::Sending => own,
         OwnStage::Awaiting { timer } => await_tick(own, terms, timer),
-        OwnStage::Replying { timer, next, reply } => reply_tick(own, terms, timer, next, reply),
+        OwnStage::Replying(arriving) => reply_tick(own, terms, arriving),
         OwnStage::Done {
             verdict: _,
             reply: _,
@@ -280,6 +259,14 @@ fn awaits(own: Own, header: Header) -> bool
     false
 }
 
+// Whether a block continues the reply, which has device ID and system bytes of its primary.
+fn continues_reply(own: Own, arriving: Arriving, header: Header) -> bool
+    ensures { λ r. ⌜ r ≡ continuesReply own arriving header ⌝ }
+{
+    let primary = primary(own);
+    arriving::continues(arriving, primary.device, primary.system, header)
+}
+
 // Rule 3: whether a block is for this place.
 pub fn takes(own: Own, header: Header) -> bool
     ensures { λ r. ⌜ r ≡ ownTakes own header ⌝ }
@@ -289,11 +276,7 @@ pub fn takes(own: Own, header: Header) -> bool
         OwnStage::Free => false,
         OwnStage::Sending => false,
         OwnStage::Awaiting { timer: _ } => awaits(own, header),
-        OwnStage::Replying {
-            timer: _,
-            next,
-            reply,
-        } => continues(reply_header(reply, primary(own)), next, header),
+        OwnStage::Replying(arriving) => continues_reply(own, arriving, header),
         OwnStage::Done {
             verdict: _,
             reply: _,
@@ -331,14 +314,7 @@ fn replied(own: Own, header: Header, fate: Fate) -> Own
                 reply: reply_of(header, length),
             },
         ),
-        Fate::More(length) => at(
-            own,
-            OwnStage::Replying {
-                timer: 0,
-                next: header.number as u32 + 1,
-                reply: reply_of(header, length), // so far
-            },
-        ),
+        Fate::More(length) => at(own, OwnStage::Replying(arriving::from(header, length))),
     }
 }
 
@@ -362,11 +338,7 @@ pub fn released(own: Own) -> Own
         OwnStage::Free => own,
         OwnStage::Sending => own,
         OwnStage::Awaiting { timer: _ } => own,
-        OwnStage::Replying {
-            timer: _,
-            next: _,
-            reply: _,
-        } => own,
+        OwnStage::Replying(_) => own,
         OwnStage::Done {
             verdict: _,
             reply: _,

@@ -17,8 +17,10 @@ use Rattle.line.proofs.line.Line.settle.Reads as settle-reads
 use Rattle.line.proofs.line.Line.settle.Kinds as settle-kinds
 use Rattle.line.proofs.line.Line.in_range.Reads as line-in-range-reads
 use Rattle.line.proofs.line.Line.in_range.Kinds as line-in-range-kinds
-use Rattle.line.proofs.step.Event.note.Reads as note-reads
-use Rattle.line.proofs.step.Event.note.Kinds as note-kinds
+use Rattle.line.proofs.line.Line.withdraw.Reads as withdraw-reads
+use Rattle.line.proofs.line.Line.withdraw.Kinds as withdraw-kinds
+use Rattle.line.proofs.step.Remark.note.Reads as note-reads
+use Rattle.line.proofs.step.Remark.note.Kinds as note-kinds
 
 pub fresh-determined : Determined 0 fresh-kinds.ps fresh-kinds.r fresh-reads.Asked fresh-reads.Post (λ κs r s. r)
 fresh-determined κs a = (tt, λ x y s t p q. p ∙ sym q)
@@ -34,6 +36,9 @@ drained-determined κs a = (tt, λ x y s t p q. p ∙ sym q)
 
 pub ask-determined : Determined 0 ask-kinds.ps ask-kinds.r ask-reads.Asked ask-reads.Post (λ κs r s. r)
 ask-determined κs a = (tt, λ x y s t p q. p ∙ sym q)
+
+pub withdraw-determined : Determined 0 withdraw-kinds.ps withdraw-kinds.r withdraw-reads.Asked withdraw-reads.Post (λ κs r s. r)
+withdraw-determined κs a = (tt, λ x y s t p q. p ∙ sym q)
 
 pub settle-determined : Determined 0 settle-kinds.ps settle-kinds.r settle-reads.Asked settle-reads.Post (λ κs r s. r)
 settle-determined κs a = (tt, λ x y s t p q. p ∙ sym q)

@@ -4,14 +4,10 @@ use mathlib.Core.Path.{_≡_, refl, sym, _∙_}
 use mathlib.Core.List.{List}
 use mathlib.Core.Bool.{Bool, true, false, false≢true}
 use mathlib.Core.Logic.{_⊎_, inl, inr, ⊎-elim}
-use lib.Dec.{eqb}
-use Rattle.wire.proofs.Choice.{chosen}
-use Rattle.settings.proofs.Timers.{by-timer}
-use Rattle.line.specs.Codes.{ENQ, EOT, ACK}
-use Rattle.line.specs.Line.{lineAt, idleByte, eotByte, giveWay, holding, ackByte, eotTick, ackTick, settleIdle, settleOf}
-use Rattle.line.specs.History.{Call, byte, tick, drained, ask, settle, none, oursAt, theirsAt, called}
+use Rattle.line.specs.Line.{lineAt, stays, drainedOf, settleIdle, settleOf}
+use Rattle.line.specs.History.{Call, byte, tick, drained, ask, withdraw, settle, none, oursAt, theirsAt, called}
 use Rattle.line.specs.Theorems.{asks, HeldWhileReceiving, SendsWhatIsAsked}
-use Rattle.line.proofs.Retrying.{retried}
+use Rattle.line.proofs.Cases.{ByByte, by-byte, ByTick, by-tick, by-settle}
 use Rattle.line.proofs.Invariant.{Free}
 use Rattle.line.proofs.Always.{always, after-one}
 use Rattle.line.specs.declared.phase.Phase.{Phase}
@@ -47,41 +43,41 @@ not-sending h (Silence timer fault) f z = refl
 abbrev Receiving : Phase → Step → Type 0
 Receiving p s = s .line .held ≡ true → (theirsAt p ≡ true) ⊎ (theirsAt (s .line .phase) ≡ true)
 
-till-the-end : (c : Limits) (h : Bool) (p : Phase) (rs : List ℕ) (k : Call) → Free p h → (h ≡ true → theirsAt p ≡ true) → asks k ≡ false → Receiving p (called c (lineAt h p) rs k .step)
-unfolding idleByte eotByte giveWay holding ackByte settleIdle
-till-the-end c h Idle rs (byte b fits) f s a = chosen (Receiving Idle) (eqb b ENQ) _ _ (λ i z. inl (s z)) (λ i z. inl (s z))
-till-the-end c h Idle rs tick f s a = λ z. inl (s z)
-till-the-end c h Idle rs drained f s a = λ z. inl (s z)
-till-the-end c h Idle rs ask f s a = λ z. absurd (false≢true (sym a))
-till-the-end c h Idle rs settle f s a = chosen (Receiving Idle) h _ _ (λ i z. inl (s i)) (λ i z. inl (s z))
-till-the-end c h (WaitEot timer tries) rs (byte b fits) f s a =
-    chosen (Receiving (WaitEot timer tries)) (eqb b EOT) _ _ (λ i z. both f z)
-    (λ i. chosen (Receiving (WaitEot timer tries)) (eqb b ENQ) _ _
-    (λ j. chosen (Receiving (WaitEot timer tries)) (c .master) _ _ (λ m z. both f z) (λ m z. inr refl))
-    (λ j z. both f z))
-till-the-end c h (WaitEot timer tries) rs tick f s a =
-    by-timer (c .t2) timer (λ t. Receiving (WaitEot timer tries) (eotTick c (lineAt h (WaitEot timer tries)) tries t))
-    (λ i. retried (Receiving (WaitEot timer tries)) c _ tries (λ j z. both f z) (λ j z. both f z)) (λ i z. both f z)
-till-the-end c h (WaitEot timer tries) rs drained f s a = λ z. both f z
-till-the-end c h (WaitEot timer tries) rs ask f s a = λ z. both f z
-till-the-end c h (WaitEot timer tries) rs settle f s a = λ z. both f z
-till-the-end c h (Draining tries) rs (byte b fits) f s a = λ z. both f z
-till-the-end c h (Draining tries) rs tick f s a = λ z. both f z
-till-the-end c h (Draining tries) rs drained f s a = λ z. both f z
-till-the-end c h (Draining tries) rs ask f s a = λ z. both f z
-till-the-end c h (Draining tries) rs settle f s a = λ z. both f z
-till-the-end c h (WaitAck timer tries) rs (byte b fits) f s a =
-    chosen (Receiving (WaitAck timer tries)) (eqb b ACK) _ _ (λ i z. both f z)
-    (λ i. retried (Receiving (WaitAck timer tries)) c _ tries (λ j z. both f z) (λ j z. both f z))
-till-the-end c h (WaitAck timer tries) rs tick f s a =
-    by-timer (c .t2) timer (λ t. Receiving (WaitAck timer tries) (ackTick c (lineAt h (WaitAck timer tries)) tries t))
-    (λ i. retried (Receiving (WaitAck timer tries)) c _ tries (λ j z. both f z) (λ j z. both f z)) (λ i z. both f z)
-till-the-end c h (WaitAck timer tries) rs drained f s a = λ z. both f z
-till-the-end c h (WaitAck timer tries) rs ask f s a = λ z. both f z
-till-the-end c h (WaitAck timer tries) rs settle f s a = λ z. both f z
-till-the-end c h (WaitLength timer) rs k f s a = λ z. inl refl
-till-the-end c h (Body timer x) rs k f s a = λ z. inl refl
-till-the-end c h (Silence timer fault) rs k f s a = λ z. inl refl
+module _ (c : Limits) (h : Bool) where
+  till-byte : (p : Phase) (b : ℕ) → Free p h → (h ≡ true → theirsAt p ≡ true) → ByByte (Receiving p) c h p b
+  till-byte Idle b f s = (λ z. inl (s z), λ z. inl (s z))
+  till-byte (WaitEot timer tries) b f s = (λ z. both f z, λ z. inr refl, λ n z. both f z)
+  till-byte (Draining tries) b f s = λ z. both f z
+  till-byte (WaitAck timer tries) b f s = (λ z. both f z, λ z. both f z, λ z. both f z)
+  till-byte (WaitLength timer) b f s = (λ z. inl refl, λ z. inl refl)
+  till-byte (Body timer a) b f s = (λ x z. inl refl, λ z. inl refl, λ y z. inl refl)
+  till-byte (Silence timer fault) b f s = λ z. inl refl
+
+  till-tick : (p : Phase) → Free p h → (h ≡ true → theirsAt p ≡ true) → ByTick (Receiving p) c h p
+  till-tick Idle f s = λ z. inl (s z)
+  till-tick (WaitEot timer tries) f s = (λ z. both f z, λ z. both f z, λ z. both f z)
+  till-tick (Draining tries) f s = λ z. both f z
+  till-tick (WaitAck timer tries) f s = (λ z. both f z, λ z. both f z, λ z. both f z)
+  till-tick (WaitLength timer) f s = (λ z. inl refl, λ z. inl refl)
+  till-tick (Body timer a) f s = (λ z. inl refl, λ z. inl refl)
+  till-tick (Silence timer fault) f s = (λ z. inl refl, λ z. inl refl)
+
+  till-drained : (p : Phase) → Free p h → (h ≡ true → theirsAt p ≡ true) → Receiving p (stays (drainedOf (lineAt h p)))
+  till-drained Idle f s = λ z. inl (s z)
+  till-drained (WaitEot timer tries) f s = λ z. both f z
+  till-drained (Draining tries) f s = λ z. both f z
+  till-drained (WaitAck timer tries) f s = λ z. both f z
+  till-drained (WaitLength timer) f s = λ z. inl refl
+  till-drained (Body timer a) f s = λ z. inl refl
+  till-drained (Silence timer fault) f s = λ z. inl refl
+
+  till-the-end : (p : Phase) (rs : List ℕ) (k : Call) → Free p h → (h ≡ true → theirsAt p ≡ true) → asks k ≡ false → Receiving p (called c (lineAt h p) rs k .step)
+  till-the-end p rs (byte b fits) f s a = by-byte (Receiving p) c h p b rs (till-byte p b f s)
+  till-the-end p rs tick f s a = by-tick (Receiving p) c h p (till-tick p f s)
+  till-the-end p rs drained f s a = till-drained p f s
+  till-the-end p rs ask f s a = absurd (false≢true (sym a))
+  till-the-end p rs withdraw f s a = λ z. absurd (false≢true z)
+  till-the-end p rs settle f s a = by-settle (Receiving p) h p (λ z. absurd (false≢true z)) (λ z. inl (s z))
 
 pub held-while-receiving : HeldWhileReceiving
 held-while-receiving c t w =

@@ -8,19 +8,17 @@ use lib.Dec.{ltb, eqb}
 use lib.ListN.{length}
 use borrow.Author.Tests.{le-ltb, eq-eqb, ne-eqb}
 use Rattle.wire.specs.Bytes.{pairOf}
-use Rattle.line.specs.Line.{lineAt, idleByte, eotByte, giveWay, ackByte, lengthByte, bodyByte, lowByte, Heard}
-use Rattle.settings.specs.Panel.{between}
-use Rattle.wire.proofs.Choice.{chosen}
-use Rattle.line.specs.Codes.{ENQ, EOT, ACK, NAK}
+use Rattle.line.specs.Line.{lineAt, bodyByte, lowByte}
+use Rattle.line.specs.Codes.{NAK}
 use Rattle.line.specs.History.{byte, puts, theirsAt, called, answered, next}
 use Rattle.line.specs.Theorems.{receiveLimit, ReceiveEnds, NakInTime, patience, IsBlock, UpIsWhatCame, WholeGoesUp}
-use Rattle.line.proofs.Retrying.{retried}
+use Rattle.line.proofs.Cases.{ByByte, by-byte}
 use Rattle.line.proofs.Arrivals.{coming-last, refused-last, after-count}
 use Rattle.line.proofs.Invariant.{At, Holds, Cause, after-refused}
 use Rattle.line.proofs.Always.{always, after-one}
 use Rattle.line.specs.declared.phase.Phase.{Phase}
 use Rattle.line.specs.declared.phase.Phase.the-variants.{Idle, WaitEot, Draining, WaitAck, WaitLength, Body, Silence}
-use Rattle.line.specs.declared.step.Event.the-variants.{Up}
+use Rattle.line.specs.declared.step.Told.the-variants as told
 use Rattle.line.specs.declared.step.Step.{Step}
 use Rattle.settings.specs.declared.limits.Limits.{Limits}
 
@@ -54,30 +52,20 @@ patient c (Silence timer fault) w e r q rs bs g x z = rw (after-refused c bs x) 
 abbrev Mute : Step → Type 0
 Mute s = puts NAK (s .out) ≡ false
 
-no-nak : (c : Limits) (h : Bool) (p : Phase) (rs : List ℕ) (b : ℕ) (fits : b < 256) → Mute (called c (lineAt h p) rs (byte b fits) .step)
-unfolding idleByte eotByte giveWay ackByte lengthByte bodyByte lowByte
-no-nak c h Idle rs b fits = chosen Mute (eqb b ENQ) _ _ (λ i. refl) (λ i. refl)
-no-nak c h (WaitEot timer tries) rs b fits =
-    chosen Mute (eqb b EOT) _ _ (λ i. refl)
-    (λ i. chosen Mute (eqb b ENQ) _ _
-    (λ j. chosen Mute (c .master) _ _ (λ l. refl) (λ l. refl))
-    (λ j. refl))
-no-nak c h (Draining tries) rs b fits = refl
-no-nak c h (WaitAck timer tries) rs b fits =
-    chosen Mute (eqb b ACK) _ _ (λ i. refl)
-    (λ i. retried Mute c (lineAt h (WaitAck timer tries)) tries (λ j. refl) (λ j. refl))
-no-nak c h (WaitLength timer) rs b fits = chosen Mute (between 10 b 254) _ _ (λ i. refl) (λ i. refl)
-no-nak c h (Body timer a) rs b fits =
-    chosen (λ (x : Heard). Mute (x .step)) (ltb (a .got) (a .length)) _ _ (λ i. refl)
-    (λ i. chosen (λ (x : Heard). Mute (x .step)) (eqb (a .got) (a .length)) _ _ (λ j. refl)
-    (λ j. chosen Mute (eqb (pairOf (a .high) b) (a .sum)) _ _ (λ l. refl) (λ l. refl)))
-no-nak c h (Silence timer fault) rs b fits = refl
+no-nak : (c : Limits) (h : Bool) (p : Phase) (b : ℕ) → ByByte Mute c h p b
+no-nak c h Idle b = (refl, refl)
+no-nak c h (WaitEot timer tries) b = (refl, refl, λ n. refl)
+no-nak c h (Draining tries) b = refl
+no-nak c h (WaitAck timer tries) b = (refl, refl, refl)
+no-nak c h (WaitLength timer) b = (refl, refl)
+no-nak c h (Body timer a) b = (λ x. refl, refl, λ f. refl)
+no-nak c h (Silence timer fault) b = refl
 
 pub nak-in-time : NakInTime
 nak-in-time c t w =
     let g = always c t w in
     record {
-      to-no-byte = λ b fits. no-nak c (t .line .held) (t .line .phase) (t .received) b fits;
+      to-no-byte = λ b fits. by-byte Mute c (t .line .held) (t .line .phase) b (t .received) (no-nak c (t .line .held) (t .line .phase) b);
       no-sooner = λ k e. after-one c t w k .nak e;
       no-later = λ e. patient c (t .line .phase) (t .seen .waited) (t .seen .enqs) (t .seen .took) (t .seen .silent) (t .received) (t .seen .bytes) (g .counts) (g .bytes) (sym (g .theirs) ∙ e);
     }
@@ -87,7 +75,7 @@ up-is-what-came c t w k n e =
     let x = subst (Cause c k (t .seen) (next c t k .seen) (next c t k .received) (answered c t k .step .out)) e (after-one c t w k .cause) in
     record { whole = x .0; acknowledged = x .1 }
 
-whole-up : (c : Limits) (h : Bool) (p : Phase) (w e r q : ℕ) (rs bs : List ℕ) (b : ℕ) (fits : b < 256) (n : ℕ) (body : List ℕ) → At c p w e r (length bs) q → length rs ≡ 256 → Holds p rs bs → theirsAt p ≡ true → IsBlock n body (bs ++ (b ∷ [])) → called c (lineAt h p) rs (byte b fits) .step .event ≡ Up n
+whole-up : (c : Limits) (h : Bool) (p : Phase) (w e r q : ℕ) (rs bs : List ℕ) (b : ℕ) (fits : b < 256) (n : ℕ) (body : List ℕ) → At c p w e r (length bs) q → length rs ≡ 256 → Holds p rs bs → theirsAt p ≡ true → IsBlock n body (bs ++ (b ∷ [])) → called c (lineAt h p) rs (byte b fits) .step .told ≡ told.Up n
 unfolding bodyByte lowByte
 whole-up c h Idle w e r q rs bs b fits n body g m x z k = absurd (false≢true z)
 whole-up c h (WaitEot timer tries) w e r q rs bs b fits n body g m x z k = absurd (false≢true z)
@@ -99,7 +87,7 @@ whole-up c h (Body timer a) w e r q rs bs b fits n body g m x z k =
     let l = coming-last a b n rs bs body m (g .5) x k in
     let over : ltb (a .got) (a .length) ≡ false = le-ltb (a .got) (a .length) (omega (arith, l .1)) in
     let not-high : eqb (a .got) (a .length) ≡ false = ne-eqb (a .got) (a .length) (λ same. omega (arith, l .1)) in
-    simp (over, not-high, eq-eqb (pairOf (a .high) b) (a .sum) (l .2)) (ap Up (sym (l .0)))
+    simp (over, not-high, eq-eqb (pairOf (a .high) b) (a .sum) (l .2)) (ap told.Up (sym (l .0)))
 whole-up c h (Silence timer fault) w e r q rs bs b fits n body g m x z k = absurd (refused-last bs b n body x k)
 
 pub whole-goes-up : WholeGoesUp

@@ -4,7 +4,6 @@ use mathlib.Core.Path.{_≡_}
 use mathlib.Core.Bool.{true, false}
 use borrow.Author.Tests.{lt-ltb, le-ltb, ltb-true, ltb-false}
 use Rattle.wire.proofs.Choice.{chosen}
-use Rattle.line.specs.Codes.{ENQ}
 use Rattle.line.specs.Line.{spent, fails, again, retryOf}
 use Rattle.settings.specs.declared.limits.Limits.{Limits}
 use Rattle.line.specs.declared.line.Line.{Line}

@@ -17,7 +17,6 @@ use Rattle.line.specs.declared.phase.Phase.{Phase}
 use Rattle.line.specs.declared.phase.Phase.the-variants.{WaitEot, WaitAck}
 use Rattle.line.specs.declared.phase.Fault.{Fault}
 use Rattle.line.specs.declared.step.Out.the-variants.{Nothing}
-use Rattle.line.specs.declared.step.Event.the-variants.{Quiet}
 use Rattle.settings.specs.declared.limits.Limits.{Limits}
 
 retries : (c : Limits) (h : Bool) (p : Phase) (tries : ℕ) → Retries c h tries (retryOf c (lineAt h p) tries)
@@ -113,12 +112,12 @@ ask-sending h _ (wait-eot timer tries) = refl
 ask-sending h _ (draining tries) = refl
 ask-sending h _ (wait-ack timer tries) = refl
 
-settle-receiving : (h : Bool) (p : Phase) → Receives p → settleOf (lineAt h p) ≡ says h p Nothing Quiet
+settle-receiving : (h : Bool) (p : Phase) → Receives p → settleOf (lineAt h p) ≡ says h p Nothing
 settle-receiving h _ (wait-length timer) = refl
 settle-receiving h _ (body timer a) = refl
 settle-receiving h _ (silence timer f) = refl
 
-settle-sending : (h : Bool) (p : Phase) → Sends p → settleOf (lineAt h p) ≡ says h p Nothing Quiet
+settle-sending : (h : Bool) (p : Phase) → Sends p → settleOf (lineAt h p) ≡ says h p Nothing
 settle-sending h _ (wait-eot timer tries) = refl
 settle-sending h _ (draining tries) = refl
 settle-sending h _ (wait-ack timer tries) = refl
@@ -139,7 +138,7 @@ line-rules =
       wait-length = wait-length-rules;
       body = body-rules;
       silence = silence-rules;
-      held = λ h. record { ask-receiving = ask-receiving h; ask-sending = ask-sending h; settle-receiving = settle-receiving h; settle-sending = settle-sending h };
+      held = λ h. record { ask-receiving = ask-receiving h; ask-sending = ask-sending h; settle-receiving = settle-receiving h; settle-sending = settle-sending h; withdrawn = λ p. refl };
       received-elsewhere =
           λ c rs h. record { idle = λ b. refl; sending = received-sending c rs h; length = λ timer b. refl; silence = λ timer f b. refl };
     }

@@ -5,8 +5,8 @@ use Rattle.line.specs.declared.phase.Fault.{Fault}
 use Rattle.line.specs.declared.phase.Fault.the-variants.{Length, Sum}
 use Rattle.line.specs.declared.step.Out.{Out}
 use Rattle.line.specs.declared.step.Out.the-variants.{Nothing, Code, Block}
-use Rattle.line.specs.declared.step.Event.{Event}
-use Rattle.line.specs.declared.step.Event.the-variants.{Quiet, Sent, Failed, GaveWay, Up, NoLength, Gap, Bad}
+use Rattle.line.specs.declared.step.Remark.{Remark}
+use Rattle.line.specs.declared.step.Remark.the-variants as remark
 
 abbrev pub ENQ : ℕ
 ENQ = 0x05
@@ -32,12 +32,9 @@ faultNote Length = 30
 faultNote (Sum received counted) = 31
 
 -- "20 nothing", "and with a NAK 28 no length in T2, 29 gap in body". The note of a block that goes up is its judge's.
-abbrev pub noteOf : Event → ℕ
-noteOf Quiet = 20
-noteOf Sent = 20
-noteOf Failed = 20
-noteOf GaveWay = 20
-noteOf (Up n) = 20
-noteOf NoLength = 28
-noteOf Gap = 29
-noteOf (Bad fault) = faultNote fault
+abbrev pub noteOf : Remark → ℕ
+noteOf remark.Nothing = 20
+noteOf remark.GaveWay = 20
+noteOf remark.NoLength = 28
+noteOf remark.Gap = 29
+noteOf (remark.Bad fault) = faultNote fault

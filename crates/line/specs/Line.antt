@@ -1,6 +1,7 @@
--- The line as a function on its states (E4 5.8; 01, "The line"): what a byte, a tick, drained, an ask and the settling step do.
+-- The line as a function on its states (E4 5.8; 01, "The line"): what a byte, a tick, drained, an ask, a
+-- withdrawal and the settling step do.
 use Prim.Native.Nat.{ℕ, _+_}
-use mathlib.Core.Bool.{Bool, true, false, cond}
+use mathlib.Core.Bool.{Bool, true, false, cond, _||_}
 use mathlib.Core.List.{List}
 use lib.ListN.{set}
 use lib.Dec.{ltb, eqb}
@@ -18,8 +19,10 @@ use Rattle.line.specs.declared.phase.Fault.{Fault}
 use Rattle.line.specs.declared.phase.Fault.the-variants.{Length, Sum}
 use Rattle.line.specs.declared.step.Out.{Out}
 use Rattle.line.specs.declared.step.Out.the-variants.{Nothing, Code, Block}
-use Rattle.line.specs.declared.step.Event.{Event}
-use Rattle.line.specs.declared.step.Event.the-variants.{Quiet, Sent, Failed, GaveWay, Up, NoLength, Gap, Bad}
+use Rattle.line.specs.declared.step.Told.{Told}
+use Rattle.line.specs.declared.step.Told.the-variants as told
+use Rattle.line.specs.declared.step.Remark.{Remark}
+use Rattle.line.specs.declared.step.Remark.the-variants as remark
 use Rattle.settings.specs.declared.limits.Limits.{Limits}
 use Rattle.line.specs.declared.line.Line.{Line}
 use Rattle.line.specs.declared.step.Step.{Step}
@@ -32,17 +35,39 @@ freshLine = record { held = false; phase = Idle }
 abbrev pub lineAt : Bool → Phase → Line
 lineAt h p = record { held = h; phase = p }
 
--- the line at another phase, what goes out, and what is told
-abbrev pub goes : Line → Phase → Out → Event → Step
-goes l p o e = record { line = record { held = l .held; phase = p }; out = o; event = e }
+-- the line at another phase, and what goes out
+abbrev pub goes : Line → Phase → Out → Step
+goes l p o = record { line = lineAt (l .held) p; out = o; told = told.Nothing; remark = remark.Nothing }
+
+-- the same, and this is told
+abbrev pub tells : Line → Phase → Out → Told → Step
+tells l p o t = record { line = lineAt (l .held) p; out = o; told = t; remark = remark.Nothing }
+
+-- the same, and this is remarked
+abbrev pub remarks : Line → Phase → Out → Remark → Step
+remarks l p o r = record { line = lineAt (l .held) p; out = o; told = told.Nothing; remark = r }
 
 -- the line as it is: what came was dropped
 abbrev pub stays : Line → Step
-stays l = record { line = l; out = Nothing; event = Quiet }
+stays l = record { line = l; out = Nothing; told = told.Nothing; remark = remark.Nothing }
 
 -- the line with a block held
 unfoldable pub holding : Line → Line
 holding l = record { held = true; phase = l .phase }
+
+-- a block of ours is under way: ENQ is out, the block is leaving, or ACK is waited for
+abbrev pub underWay : Phase → Bool
+underWay Idle = false
+underWay (WaitEot timer tries) = true
+underWay (Draining tries) = true
+underWay (WaitAck timer tries) = true
+underWay (WaitLength timer) = false
+underWay (Body timer a) = false
+underWay (Silence timer fault) = false
+
+-- "a message is being sent or held", as the line has it: a block is under way, or held
+abbrev pub busy : Line → Bool
+busy l = underWay (l .phase) || l .held
 
 -- ---- sending
 
@@ -52,11 +77,11 @@ spent c tries = ltb (c .rty) (tries + 1)
 
 -- "the send has failed and the line is idle"
 abbrev pub fails : Line → Step
-fails l = goes l Idle Nothing Failed
+fails l = tells l Idle Nothing told.Failed
 
 -- "ENQ again"
 abbrev pub again : Line → ℕ → Step
-again l tries = goes l (WaitEot 0 (tries + 1)) (Code ENQ) Quiet
+again l tries = goes l (WaitEot 0 (tries + 1)) (Code ENQ)
 
 -- Retry: "Above RTY the send has failed ..; else ENQ again."
 unfoldable pub retryOf : Limits → Line → ℕ → Step
@@ -64,39 +89,47 @@ retryOf c l tries = cond (spent c tries) (fails l) (again l tries)
 
 -- "gives EOT and holds the block"
 abbrev pub yields : Line → Step
-yields l = goes (holding l) (WaitLength 0) (Code EOT) GaveWay
+yields l = remarks (holding l) (WaitLength 0) (Code EOT) remark.GaveWay
 
 -- Waiting for EOT: "ENQ at the slave gives EOT and holds the block; the master drops it."
 unfoldable pub giveWay : Limits → Line → Step
 giveWay c l = cond (c .master) (stays l) (yields l)
 
+-- "puts out the whole block"
+abbrev pub sends : Line → ℕ → Step
+sends l tries = goes l (Draining tries) Block
+
 -- Waiting for EOT: "EOT puts out the whole block." .. "Other bytes are dropped and do not touch the timer."
 unfoldable pub eotByte : Limits → Line → ℕ → ℕ → Step
-eotByte c l tries b = cond (eqb b EOT) (goes l (Draining tries) Block Quiet) (cond (eqb b ENQ) (giveWay c l) (stays l))
+eotByte c l tries b = cond (eqb b EOT) (sends l tries) (cond (eqb b ENQ) (giveWay c l) (stays l))
+
+-- "means sent"
+abbrev pub succeeds : Line → Step
+succeeds l = tells l Idle Nothing told.Sent
 
 -- Waiting for ACK: "ACK means sent;" .. "Any other byte .. : retry."
 unfoldable pub ackByte : Limits → Line → ℕ → ℕ → Step
-ackByte c l tries b = cond (eqb b ACK) (goes l Idle Nothing Sent) (retryOf c l tries)
+ackByte c l tries b = cond (eqb b ACK) (succeeds l) (retryOf c l tries)
 
 -- Waiting for EOT, a tick: "Beyond T2: retry." What the tick made of the timer is given.
 abbrev pub eotTick : Limits → Line → ℕ → Timer → Step
 eotTick c l tries RunsOut = retryOf c l tries
-eotTick c l tries (Runs timer) = goes l (WaitEot timer tries) Nothing Quiet
+eotTick c l tries (Runs timer) = goes l (WaitEot timer tries) Nothing
 
 -- Waiting for ACK, a tick: ".. or T2 exceeded: retry."
 abbrev pub ackTick : Limits → Line → ℕ → Timer → Step
 ackTick c l tries RunsOut = retryOf c l tries
-ackTick c l tries (Runs timer) = goes l (WaitAck timer tries) Nothing Quiet
+ackTick c l tries (Runs timer) = goes l (WaitAck timer tries) Nothing
 
 -- ---- receiving
 
 -- Body: "each byte restarts T1"
 abbrev pub takes : Line → Arrival → Step
-takes l a = goes l (Body 0 a) Nothing Quiet
+takes l a = goes l (Body 0 a) Nothing
 
 -- Silence: "bytes are dropped and restart T1"
 abbrev pub listens : Line → Fault → Step
-listens l f = goes l (Silence 0 f) Nothing Quiet
+listens l f = goes l (Silence 0 f) Nothing
 
 -- a block of N bytes of which none has come
 abbrev pub opened : ℕ → Arrival
@@ -113,9 +146,13 @@ withByte a b = record { length = a .length; got = a .got + 1; sum = sumWith (a .
 abbrev pub withHigh : Arrival → ℕ → Arrival
 withHigh a b = record { length = a .length; got = a .got + 1; sum = a .sum; high = b }
 
+-- "ACK, and the block goes up"
+abbrev pub rises : Line → ℕ → Step
+rises l n = tells l Idle (Code ACK) (told.Up n)
+
 -- "Equal sums: ACK, and the block goes up. Else listen for silence."
 unfoldable pub lowByte : Line → ℕ → ℕ → ℕ → Step
-lowByte l n counted received = cond (eqb received counted) (goes l Idle (Code ACK) (Up n)) (listens l (Sum received counted))
+lowByte l n counted received = cond (eqb received counted) (rises l n) (listens l (Sum received counted))
 
 -- what a byte leaves: the step, and the received bytes
 pub record Heard : Type 0 where
@@ -133,29 +170,33 @@ bodyByte l a b rs =
     (heard (lowByte l (a .length) (a .sum) (pairOf (a .high) b)) rs))
 
 -- a receive ends by NAK
-abbrev pub naks : Line → Event → Step
-naks l why = goes l Idle (Code NAK) why
+abbrev pub naks : Line → Remark → Step
+naks l why = remarks l Idle (Code NAK) why
 
 -- Waiting for length, a tick: "Beyond T2: NAK."
 abbrev pub lengthTick : Line → Timer → Step
-lengthTick l RunsOut = naks l NoLength
-lengthTick l (Runs timer) = goes l (WaitLength timer) Nothing Quiet
+lengthTick l RunsOut = naks l remark.NoLength
+lengthTick l (Runs timer) = goes l (WaitLength timer) Nothing
 
 -- Body, a tick: "Beyond T1: NAK."
 abbrev pub bodyTick : Line → Arrival → Timer → Step
-bodyTick l a RunsOut = naks l Gap
-bodyTick l a (Runs timer) = goes l (Body timer a) Nothing Quiet
+bodyTick l a RunsOut = naks l remark.Gap
+bodyTick l a (Runs timer) = goes l (Body timer a) Nothing
 
 -- Silence, a tick: "beyond T1: NAK."
 abbrev pub silenceTick : Line → Fault → Timer → Step
-silenceTick l fault RunsOut = naks l (Bad fault)
-silenceTick l fault (Runs timer) = goes l (Silence timer fault) Nothing Quiet
+silenceTick l fault RunsOut = naks l (remark.Bad fault)
+silenceTick l fault (Runs timer) = goes l (Silence timer fault) Nothing
 
 -- ---- the calls
 
+-- "EOT and a wait for the length"
+abbrev pub answers : Line → Step
+answers l = goes l (WaitLength 0) (Code EOT)
+
 -- Idle: "ENQ gives EOT and a wait for the length. Other bytes are dropped."
 unfoldable pub idleByte : Line → ℕ → Step
-idleByte l b = cond (eqb b ENQ) (goes l (WaitLength 0) (Code EOT) Quiet) (stays l)
+idleByte l b = cond (eqb b ENQ) (answers l) (stays l)
 
 abbrev pub byteAt : Limits → Phase → Line → ℕ → List ℕ → Heard
 byteAt c Idle l b rs = heard (idleByte l b) rs
@@ -185,7 +226,7 @@ tickOf c l = tickAt c (l .phase) l
 abbrev pub drainedAt : Phase → Line → Line
 drainedAt Idle l = l
 drainedAt (WaitEot timer tries) l = l
-drainedAt (Draining tries) l = record { held = l .held; phase = WaitAck 0 tries }
+drainedAt (Draining tries) l = lineAt (l .held) (WaitAck 0 tries)
 drainedAt (WaitAck timer tries) l = l
 drainedAt (WaitLength timer) l = l
 drainedAt (Body timer a) l = l
@@ -207,9 +248,17 @@ askAt (Silence timer fault) l = holding l
 abbrev pub askOf : Line → Line
 askOf l = askAt (l .phase) l
 
+-- a message that is gone is withdrawn: a held block is held no more, and none is owed; one that is under way goes on
+abbrev pub withdrawOf : Line → Line
+withdrawOf l = lineAt false (l .phase)
+
+-- "is sent at once with a fresh count of tries"
+abbrev pub starts : Step
+starts = goes (lineAt false Idle) (WaitEot 0 0) (Code ENQ)
+
 -- Idle: "A held block .. is sent at once with a fresh count of tries"
 unfoldable pub settleIdle : Line → Step
-settleIdle l = cond (l .held) (record { line = record { held = false; phase = WaitEot 0 0 }; out = Code ENQ; event = Quiet }) (stays l)
+settleIdle l = cond (l .held) starts (stays l)
 
 abbrev pub settleAt : Phase → Line → Step
 settleAt Idle l = settleIdle l

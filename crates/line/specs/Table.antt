@@ -12,7 +12,8 @@ use Rattle.line.specs.Line.{freshLine}
 use Rattle.line.specs.History.{Call, byte, tick, drained, ask, settle, called, none, left, answered, history}
 use Rattle.line.specs.Theorems.{sendLimit}
 use Rattle.line.specs.declared.phase.Fault.the-variants.{Length, Sum}
-use Rattle.line.specs.declared.step.Event.the-variants.{Quiet, Failed, NoLength, Gap, Bad}
+use Rattle.line.specs.declared.step.Told.the-variants as told
+use Rattle.line.specs.declared.step.Remark.the-variants as remark
 use Rattle.settings.specs.declared.limits.Limits.{Limits}
 use Rattle.line.specs.declared.line.Line.{Line}
 
@@ -52,11 +53,11 @@ pub record CodesTable : Type 0 where
 
 -- "20 nothing, .. and with a NAK 28 no length in T2, 29 gap in body, 30 bad length, 31 bad sum"
 pub record NotesTable : Type 0 where
-  pub nothing : noteOf Quiet ≡ 20
-  pub no-length : noteOf NoLength ≡ 28
-  pub gap : noteOf Gap ≡ 29
-  pub bad-length : noteOf (Bad Length) ≡ 30
-  pub bad-sum : (received counted : ℕ) → noteOf (Bad (Sum received counted)) ≡ 31
+  pub nothing : noteOf remark.Nothing ≡ 20
+  pub no-length : noteOf remark.NoLength ≡ 28
+  pub gap : noteOf remark.Gap ≡ 29
+  pub bad-length : noteOf (remark.Bad Length) ≡ 30
+  pub bad-sum : (received counted : ℕ) → noteOf (remark.Bad (Sum received counted)) ≡ 31
 
 -- 01's listing: a primary goes out, and its reply comes in. Between the calls of the unit the line settles.
 abbrev pub listing : List Call
@@ -79,6 +80,6 @@ pub record LimitMet : Type 0 where
   pub before : history (panel false) blank fourAttempts .seen .waited ≡ 803
   pub under-way : history (panel false) blank fourAttempts .seen .ours ≡ left
   pub four-enqs : history (panel false) blank fourAttempts .seen .enqs ≡ 4
-  pub fails : answered (panel false) (history (panel false) blank fourAttempts) tick .step .event ≡ Failed
+  pub fails : answered (panel false) (history (panel false) blank fourAttempts) tick .step .told ≡ told.Failed
   pub met : history (panel false) blank (fourAttempts ++ (tick ∷ [])) .seen .waited ≡ 804
   pub over : history (panel false) blank (fourAttempts ++ (tick ∷ [])) .seen .ours ≡ none

@@ -4,21 +4,26 @@ use Prim.Native.Nat.{ℕ, _+_, _*_, _≤_, _<_}
 use mathlib.Core.Path.{_≡_}
 use mathlib.Core.List.{List, [], _∷_, _++_}
 use mathlib.Core.Bool.{Bool, true, false}
-use mathlib.Core.Logic.{_⊎_}
+use mathlib.Core.Logic.{_⊎_, _↔_, _≢_}
 use lib.ListN.{length, take}
 use Rattle.wire.specs.Bytes.{halvesOf}
 use Rattle.wire.specs.Sum.{checksumOf}
 use Rattle.line.specs.Codes.{ENQ, EOT, ACK, NAK}
 use Rattle.settings.specs.Limits.{limitsOf}
 use Rattle.settings.specs.Theorems.{Fits}
-use Rattle.line.specs.Range.{lineInRange}
-use Rattle.line.specs.History.{Call, byte, tick, drained, ask, settle, comes, none, enquired, left, oursAt, theirsAt, begins, puts, Track, answered, next, history}
+use Rattle.line.specs.Line.{underWay, busy, byteOf, tickOf, drainedOf, askOf, withdrawOf, settleOf}
+use Rattle.line.specs.Range.{lineInRange, LineFits}
+use Rattle.line.specs.History.{Call, byte, tick, drained, ask, withdraw, settle, onAsk, comes, none, enquired, left, oursAt, theirsAt, begins, puts, Track, called, answered, next, history}
 use Rattle.line.specs.declared.phase.Phase.{Phase}
 use Rattle.line.specs.declared.phase.Phase.the-variants.{Idle, WaitEot, Draining, WaitAck, WaitLength, Body, Silence}
 use Rattle.line.specs.declared.step.Out.the-variants.{Code, Block}
-use Rattle.line.specs.declared.step.Event.the-variants.{Sent, Failed, GaveWay, Up}
+use Rattle.line.specs.declared.step.Told.{Told}
+use Rattle.line.specs.declared.step.Told.the-variants as told
+use Rattle.line.specs.declared.step.Remark.the-variants as remark
+use Rattle.line.specs.declared.step.Step.{Step}
 use Rattle.settings.specs.declared.limits.Limits.{Limits}
 use Rattle.settings.specs.declared.limits.Panel.{Panel}
+use Rattle.line.specs.declared.line.Line.{Line}
 
 -- what any calls on a fresh line at limits c leave, with an array of 256 bytes beside it
 pub record Reached (c : Limits) (t : Track) : Type 0 where
@@ -31,7 +36,7 @@ pub record Reached (c : Limits) (t : Track) : Type 0 where
 abbrev pub Always : (Limits → Track → Type 0) → Type 0
 Always P = (c : Limits) (t : Track) → Reached c t → P c t
 
--- the onlooker is right: it knows from calls, output and events alone what the line waits for
+-- the onlooker is right: it knows from calls, output, what is told and what is remarked alone what the line waits for
 pub record SeesRight (t : Track) : Type 0 where
   pub ours : t .seen .ours ≡ oursAt (t .line .phase)
   pub theirs : t .seen .theirs ≡ theirsAt (t .line .phase)
@@ -74,15 +79,78 @@ TriesAreEnqs = Always (λ c t. Counts (t .line .phase) (t .seen .enqs))
 abbrev pub EachEnqItsBlock : Type 0
 EachEnqItsBlock = Always (λ c t. t .seen .ours ≡ enquired → (k : Call) → comes EOT k ≡ true → answered c t k .step .out ≡ Block)
 
+-- "Waiting for ACK: ACK means sent"
+abbrev pub AckMeansSent : Type 0
+AckMeansSent = Always (λ c t. t .seen .ours ≡ left → (k : Call) → comes ACK k ≡ true → answered c t k .step .told ≡ told.Sent)
+
 -- What ends a send, and nothing else does: ACK while it is waited for; as many ENQs as RTY allows; at the slave, an ENQ while
 -- EOT is waited for.
 pub record EndsBy (c : Limits) (t : Track) (k : Call) : Type 0 where
-  pub sent : answered c t k .step .event ≡ Sent → (t .seen .ours ≡ left) × (comes ACK k ≡ true)
-  pub failed : answered c t k .step .event ≡ Failed → next c t k .seen .enqs ≡ c .rty + 1
-  pub gave-way : answered c t k .step .event ≡ GaveWay → (c .master ≡ false) × (t .seen .ours ≡ enquired) × (comes ENQ k ≡ true)
+  pub sent : answered c t k .step .told ≡ told.Sent → (t .seen .ours ≡ left) × (comes ACK k ≡ true)
+  pub failed : answered c t k .step .told ≡ told.Failed → next c t k .seen .enqs ≡ c .rty + 1
+  pub gave-way : answered c t k .step .remark ≡ remark.GaveWay → (c .master ≡ false) × (t .seen .ours ≡ enquired) × (comes ENQ k ≡ true)
 
 abbrev pub SendEndsBy : Type 0
 SendEndsBy = Always (λ c t. (k : Call) → EndsBy c t k)
+
+-- ---- what a step can tell, whatever line it finds
+
+-- nothing is told, and nothing remarked
+pub record Quiet (s : Step) : Type 0 where
+  pub told : s .told ≡ told.Nothing
+  pub remark : s .remark ≡ remark.Nothing
+
+-- The whole block leaves alone: in the step that puts it out nothing is told or remarked. Nor is it by settling.
+pub record QuietAt (c : Limits) (l : Line) (rs : List ℕ) : Type 0 where
+  pub block : (k : Call) → called c l rs k .step .out ≡ Block → Quiet (called c l rs k .step)
+  pub settled : Quiet (settleOf l)
+
+abbrev pub BlockAlone : Type 0
+BlockAlone = (c : Limits) (l : Line) (rs : List ℕ) → QuietAt c l rs
+
+-- No block is sent at a tick, none goes up and none gives way: ACK, the last byte of a block and ENQ are bytes.
+pub record AtTick (s : Step) : Type 0 where
+  pub not-sent : s .told ≢ told.Sent
+  pub not-up : (n : ℕ) → s .told ≢ told.Up n
+  pub no-way : s .remark ≢ remark.GaveWay
+
+abbrev pub TicksTell : Type 0
+TicksTell = (c : Limits) (l : Line) → AtTick (tickOf c l)
+
+-- ---- busy: a block of ours is under way, or held
+
+-- by what a step tells, busy before it and after: what ends a send ends that, and nothing else does
+abbrev pub Turns : Told → Bool → Bool → Type 0
+Turns told.Nothing before after = before ≡ after
+Turns told.Sent before after = (before ≡ true) × (after ≡ false)
+Turns told.Failed before after = (before ≡ true) × (after ≡ false)
+Turns (told.Up n) before after = before ≡ after
+
+pub record BusyBy (l : Line) (s : Step) : Type 0 where
+  pub turns : Turns (s .told) (busy l) (busy (s .line))
+  -- the whole block is put out while it is under way
+  pub block : s .out ≡ Block → busy l ≡ true
+
+-- a byte and a tick
+pub record BusySteps (c : Limits) (l : Line) : Type 0 where
+  pub byte : (b : ℕ) (rs : List ℕ) → BusyBy l (byteOf c l b rs .step)
+  pub tick : BusyBy l (tickOf c l)
+
+abbrev pub BusyTurns : Type 0
+BusyTurns = Always (λ c t. BusySteps c (t .line))
+
+-- the steps that tell nothing, whatever line they find
+pub record BusyStills (l : Line) : Type 0 where
+  pub drained : busy l ≡ busy (drainedOf l)
+  pub ask : busy (askOf l) ≡ true
+  -- a held block that goes out is under way
+  pub settle : busy l ≡ busy (settleOf l .line)
+  -- a held block is held no more; what is under way goes on
+  pub withdraw : busy (withdrawOf l) ≡ underWay (l .phase)
+  pub nothing-to-withdraw : busy l ≡ false → withdrawOf l ≡ l
+
+abbrev pub BusyStill : Type 0
+BusyStill = (l : Line) → BusyStills l
 
 -- ---- receiving
 
@@ -127,21 +195,17 @@ pub record Rises (c : Limits) (t : Track) (k : Call) (n : ℕ) : Type 0 where
   pub acknowledged : answered c t k .step .out ≡ Code ACK
 
 abbrev pub UpIsWhatCame : Type 0
-UpIsWhatCame = Always (λ c t. (k : Call) (n : ℕ) → answered c t k .step .event ≡ Up n → Rises c t k n)
+UpIsWhatCame = Always (λ c t. (k : Call) (n : ℕ) → answered c t k .step .told ≡ told.Up n → Rises c t k n)
 
 -- "Equal sums: ACK, and the block goes up": every block that came whole does
 abbrev pub WholeGoesUp : Type 0
 WholeGoesUp =
-    Always (λ c t. t .seen .theirs ≡ true → (b : ℕ) (fits : b < 256) (n : ℕ) (body : List ℕ) → IsBlock n body (t .seen .bytes ++ (b ∷ [])) → answered c t (byte b fits) .step .event ≡ Up n)
+    Always (λ c t. t .seen .theirs ≡ true → (b : ℕ) (fits : b < 256) (n : ℕ) (body : List ℕ) → IsBlock n body (t .seen .bytes ++ (b ∷ [])) → answered c t (byte b fits) .step .told ≡ told.Up n)
 
 -- ---- a held block
 
 abbrev pub asks : Call → Bool
-asks (byte b fits) = false
-asks tick = false
-asks drained = false
-asks ask = true
-asks settle = false
+asks k = onAsk k true false false
 
 -- "A held block (one that gave way, or was asked for while the line was receiving)"
 pub record HeldWhen (c : Limits) (t : Track) : Type 0 where
@@ -154,7 +218,7 @@ pub record HeldWhen (c : Limits) (t : Track) : Type 0 where
       (t .line .held ≡ true → t .seen .theirs ≡ true) → (k : Call) → asks k ≡ false → next c t k .line .held ≡ true
       → (t .seen .theirs ≡ true) ⊎ (next c t k .seen .theirs ≡ true)
 
--- What is held is what is owed: a block that was asked for, or that gave way, and has had no ENQ since. No other is sent, and
+-- What is held is what is owed: a block that was asked for, or that gave way, and has had no ENQ since and was not withdrawn. No other is sent, and
 -- none is forgotten: after the last step of a call one is owed only while the line is receiving.
 pub record SendsAsked (c : Limits) (t : Track) : Type 0 where
   pub held : t .line .held ≡ t .seen .owed
@@ -168,6 +232,10 @@ abbrev pub HeldWhileReceiving : Type 0
 HeldWhileReceiving = Always HeldWhen
 
 -- ---- ranges
+
+-- the test of the ranges asks for those of docs/STATE.md, and no more
+abbrev pub RangeExactly : Type 0
+RangeExactly = (l : Line) → lineInRange l ≡ true ↔ LineFits l
 
 -- the part of refusal 3 that is the line's: at settings of 01's ranges, no state that is reached has a number outside
 -- docs/STATE.md

@@ -1,10 +1,11 @@
 // The line, and the calls on it.
 ghost use mathlib.Core.Path.{_≡_};
-ghost use Rattle.line.specs.Line.{askOf, byteOf, drainedOf, freshLine, heard, idleByte, settleIdle, settleOf, tickOf};
+ghost use Rattle.line.specs.Line.{askOf, byteOf, drainedOf, freshLine, heard, idleByte, settleIdle, settleOf, tickOf, withdrawOf};
 use crate::phase::Phase;
-use crate::step::Event;
 use crate::step::Out;
+use crate::step::Remark;
 use crate::step::Step;
+use crate::step::Told;
 use settings::Limits;
 
 pub struct Line {
@@ -31,30 +32,59 @@ impl Line {
         Line { held: false, phase }
     }
 
-    // The line at another phase, with what goes out and what is told.
-    pub(crate) fn goes(self, phase: Phase, out: Out, event: Event) -> Step
-        ensures { λ r. ⌜ r ≡ Rattle.line.specs.Line.goes self phase out event ⌝ }
+    // The line at another phase, with what goes out.
+    pub(crate) fn goes(self, phase: Phase, out: Out) -> Step
+        ensures { λ r. ⌜ r ≡ Rattle.line.specs.Line.goes self phase out ⌝ }
+    {
+        self.tells(phase, out, Told::Nothing)
+    }
+
+    // The same, and this is told.
+    pub(crate) fn tells(self, phase: Phase, out: Out, told: Told) -> Step
+        ensures { λ r. ⌜ r ≡ Rattle.line.specs.Line.tells self phase out told ⌝ }
     {
         let line = Line {
             held: self.held,
             phase,
         };
-        Step { line, out, event }
+        Step {
+            line,
+            out,
+            told,
+            remark: Remark::Nothing,
+        }
     }
 
-    // The line as it is, and nothing to be put out or told.
+    // The same, and this is remarked.
+    pub(crate) fn remarks(self, phase: Phase, out: Out, remark: Remark) -> Step
+        ensures { λ r. ⌜ r ≡ Rattle.line.specs.Line.remarks self phase out remark ⌝ }
+    {
+        let line = Line {
+            held: self.held,
+            phase,
+        };
+        Step {
+            line,
+            out,
+            told: Told::Nothing,
+            remark,
+        }
+    }
+
+    // The line as it is, and nothing to be put out, told or remarked.
     pub(crate) fn stays(self) -> Step
         ensures { λ r. ⌜ r ≡ Rattle.line.specs.Line.stays self ⌝ }
     {
         Step {
             line: self,
             out: Out::Nothing,
-            event: Event::Quiet,
+            told: Told::Nothing,
+            remark: Remark::Nothing,
         }
     }
 
     // The line with a block held.
-    fn holding(self) -> Line
+    pub(crate) fn holding(self) -> Line
         ensures { λ r. ⌜ r ≡ Rattle.line.specs.Line.holding self ⌝ }
     {
         let phase = self.phase;
@@ -66,11 +96,7 @@ impl Line {
         ensures { λ r. ⌜ r ≡ idleByte self b ⌝ }
     {
         if b == Line::ENQ {
-            self.goes(
-                Phase::WaitLength { timer: 0 },
-                Out::Code(Line::EOT),
-                Event::Quiet,
-            )
+            self.goes(Phase::WaitLength { timer: 0 }, Out::Code(Line::EOT))
         } else {
             self.stays()
         }
@@ -146,6 +172,15 @@ impl Line {
         }
     }
 
+    // A message that is gone is withdrawn: a held block is held no more. One that is under way goes on.
+    pub fn withdraw(self) -> Line
+        ensures { λ r. ⌜ r ≡ withdrawOf self ⌝ }
+    {
+        let held = false;
+        let phase = self.phase;
+        Line { held, phase }
+    }
+
     // A held block starts with a count and a timer of its own.
     fn settle_idle(self) -> Step
         ensures { λ r. ⌜ r ≡ settleIdle self ⌝ }
@@ -158,7 +193,8 @@ impl Line {
             Step {
                 line,
                 out: Out::Code(Line::ENQ),
-                event: Event::Quiet,
+                told: Told::Nothing,
+                remark: Remark::Nothing,
             }
         } else {
             self.stays()

@@ -6,9 +6,10 @@ use crate::line::Line;
 use crate::phase::Arrival;
 use crate::phase::Fault;
 use crate::phase::Phase;
-use crate::step::Event;
 use crate::step::Out;
+use crate::step::Remark;
 use crate::step::Step;
+use crate::step::Told;
 use settings::Limits;
 use settings::Timer;
 
@@ -36,18 +37,14 @@ impl Line {
     fn takes(self, block: Arrival) -> Step
         ensures { λ r. ⌜ r ≡ Rattle.line.specs.Line.takes self block ⌝ }
     {
-        self.goes(Phase::Body { timer: 0, block }, Out::Nothing, Event::Quiet)
+        self.goes(Phase::Body { timer: 0, block }, Out::Nothing)
     }
 
     // The line listens for silence, from a byte that came now.
     pub(crate) fn listens(self, fault: Fault) -> Step
         ensures { λ r. ⌜ r ≡ Rattle.line.specs.Line.listens self fault ⌝ }
     {
-        self.goes(
-            Phase::Silence { timer: 0, fault },
-            Out::Nothing,
-            Event::Quiet,
-        )
+        self.goes(Phase::Silence { timer: 0, fault }, Out::Nothing)
     }
 
     // The last byte of a block: the sum that came is held against the sum that was counted.
@@ -55,7 +52,7 @@ impl Line {
         ensures { λ r. ⌜ r ≡ lowByte self length counted received ⌝ }
     {
         if received == counted {
-            self.goes(Phase::Idle, Out::Code(Line::ACK), Event::Up(length))
+            self.tells(Phase::Idle, Out::Code(Line::ACK), Told::Up(length))
         } else {
             self.listens(Fault::Sum { received, counted })
         }
@@ -90,22 +87,18 @@ impl Line {
     }
 
     // The receive ends by a NAK.
-    fn naks(self, why: Event) -> Step
+    fn naks(self, why: Remark) -> Step
         ensures { λ r. ⌜ r ≡ Rattle.line.specs.Line.naks self why ⌝ }
     {
-        self.goes(Phase::Idle, Out::Code(Line::NAK), why)
+        self.remarks(Phase::Idle, Out::Code(Line::NAK), why)
     }
 
     pub(crate) fn length_tick(self, limits: Limits, timer: u32) -> Step
         ensures { λ r. ⌜ r ≡ lengthTick self (ticked (limits .t2) timer) ⌝ }
     {
         match limits.t2.tick(timer) {
-            Timer::RunsOut => self.naks(Event::NoLength),
-            Timer::Runs(timer) => self.goes(
-                Phase::WaitLength { timer },
-                Out::Nothing,
-                Event::Quiet,
-            ),
+            Timer::RunsOut => self.naks(Remark::NoLength),
+            Timer::Runs(timer) => self.goes(Phase::WaitLength { timer }, Out::Nothing),
         }
     }
 
@@ -113,12 +106,8 @@ impl Line {
         ensures { λ r. ⌜ r ≡ bodyTick self block (ticked (limits .t1) timer) ⌝ }
     {
         match limits.t1.tick(timer) {
-            Timer::RunsOut => self.naks(Event::Gap),
-            Timer::Runs(timer) => self.goes(
-                Phase::Body { timer, block },
-                Out::Nothing,
-                Event::Quiet,
-            ),
+            Timer::RunsOut => self.naks(Remark::Gap),
+            Timer::Runs(timer) => self.goes(Phase::Body { timer, block }, Out::Nothing),
         }
     }
 
@@ -126,12 +115,8 @@ impl Line {
         ensures { λ r. ⌜ r ≡ silenceTick self fault (ticked (limits .t1) timer) ⌝ }
     {
         match limits.t1.tick(timer) {
-            Timer::RunsOut => self.naks(Event::Bad(fault)),
-            Timer::Runs(timer) => self.goes(
-                Phase::Silence { timer, fault },
-                Out::Nothing,
-                Event::Quiet,
-            ),
+            Timer::RunsOut => self.naks(Remark::Bad(fault)),
+            Timer::Runs(timer) => self.goes(Phase::Silence { timer, fault }, Out::Nothing),
         }
     }
 }

@@ -4,9 +4,10 @@ ghost use Rattle.settings.specs.Timer.{ticked};
 ghost use Rattle.line.specs.Line.{ackByte, ackTick, eotByte, eotTick, giveWay, retryOf};
 use crate::line::Line;
 use crate::phase::Phase;
-use crate::step::Event;
 use crate::step::Out;
+use crate::step::Remark;
 use crate::step::Step;
+use crate::step::Told;
 use settings::Limits;
 use settings::Timer;
 
@@ -16,7 +17,7 @@ impl Line {
         ensures { λ r. ⌜ r ≡ retryOf limits self tries ⌝ }
     {
         if limits.rty <= tries {
-            self.goes(Phase::Idle, Out::Nothing, Event::Failed)
+            self.tells(Phase::Idle, Out::Nothing, Told::Failed)
         } else {
             self.goes(
                 Phase::WaitEot {
@@ -24,7 +25,6 @@ impl Line {
                     tries: tries + 1,
                 },
                 Out::Code(Line::ENQ),
-                Event::Quiet,
             )
         }
     }
@@ -36,15 +36,11 @@ impl Line {
         if limits.master {
             self.stays()
         } else {
-            let line = Line {
-                held: true,
-                phase: Phase::WaitLength { timer: 0 },
-            };
-            Step {
-                line,
-                out: Out::Code(Line::EOT),
-                event: Event::GaveWay,
-            }
+            self.holding().remarks(
+                Phase::WaitLength { timer: 0 },
+                Out::Code(Line::EOT),
+                Remark::GaveWay,
+            )
         }
     }
 
@@ -53,7 +49,7 @@ impl Line {
         ensures { λ r. ⌜ r ≡ eotByte limits self tries b ⌝ }
     {
         if b == Line::EOT {
-            self.goes(Phase::Draining { tries }, Out::Block, Event::Quiet)
+            self.goes(Phase::Draining { tries }, Out::Block)
         } else if b == Line::ENQ {
             self.give_way(limits)
         } else {
@@ -65,7 +61,7 @@ impl Line {
         ensures { λ r. ⌜ r ≡ ackByte limits self tries b ⌝ }
     {
         if b == Line::ACK {
-            self.goes(Phase::Idle, Out::Nothing, Event::Sent)
+            self.tells(Phase::Idle, Out::Nothing, Told::Sent)
         } else {
             self.retry(limits, tries)
         }
@@ -76,11 +72,7 @@ impl Line {
     {
         match limits.t2.tick(timer) {
             Timer::RunsOut => self.retry(limits, tries),
-            Timer::Runs(timer) => self.goes(
-                Phase::WaitEot { timer, tries },
-                Out::Nothing,
-                Event::Quiet,
-            ),
+            Timer::Runs(timer) => self.goes(Phase::WaitEot { timer, tries }, Out::Nothing),
         }
     }
 
@@ -89,11 +81,7 @@ impl Line {
     {
         match limits.t2.tick(timer) {
             Timer::RunsOut => self.retry(limits, tries),
-            Timer::Runs(timer) => self.goes(
-                Phase::WaitAck { timer, tries },
-                Out::Nothing,
-                Event::Quiet,
-            ),
+            Timer::Runs(timer) => self.goes(Phase::WaitAck { timer, tries }, Out::Nothing),
         }
     }
 }

@@ -13,17 +13,22 @@ pub enum Out {
     Block,
 }
 
-// What the layer above is told.
-pub enum Event {
-    Quiet,
+// What the transactions are told, as any device tells them.
+pub enum Told {
+    Nothing,
     // The block was acknowledged.
     Sent,
     // The block was tried RTY + 1 times.
     Failed,
-    // The block is held, for the far end goes first.
-    GaveWay,
     // A block has come, and is acknowledged: its length N. Its bytes are the first N of the received ones.
     Up(u8),
+}
+
+// What has only a note, or not even that: nothing comes of it above the line.
+pub enum Remark {
+    Nothing,
+    // The block is held, for the far end goes first.
+    GaveWay,
     // A NAK went out: no length came in T2,
     NoLength,
     // the bytes of a body stopped for longer than T1,
@@ -35,7 +40,8 @@ pub enum Event {
 pub struct Step {
     pub line: Line,
     pub out: Out,
-    pub event: Event,
+    pub told: Told,
+    pub remark: Remark,
 }
 
 impl Fault {
@@ -52,20 +58,17 @@ impl Fault {
     }
 }
 
-impl Event {
+impl Remark {
     // The note of a call that ends here. That of a block which went up is its judge's.
     pub fn note(self) -> u8
         ensures { λ r. ⌜ r ≡ noteOf self ⌝ }
     {
         match self {
-            Event::Quiet => 20,
-            Event::Sent => 20,
-            Event::Failed => 20,
-            Event::GaveWay => 20,
-            Event::Up(_) => 20,
-            Event::NoLength => 28,
-            Event::Gap => 29,
-            Event::Bad(fault) => fault.note(),
+            Remark::Nothing => 20,
+            Remark::GaveWay => 20,
+            Remark::NoLength => 28,
+            Remark::Gap => 29,
+            Remark::Bad(fault) => fault.note(),
         }
     }
 }

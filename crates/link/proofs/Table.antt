@@ -1,15 +1,15 @@
 -- 01's numbers of refusals and notes, and 01's proved table. Assumes nothing.
 use mathlib.Core.Path.{_≡_, refl}
-use Rattle.line.specs.Codes.{noteOf}
-use Rattle.line.specs.declared.step.Event.{Event}
-use Rattle.line.specs.declared.step.Event.the-variants as event
-use Rattle.link.specs.Answer.{noteNumber, noteBy}
 use Rattle.wire.proofs.Table.{sum-table}
 use Rattle.header.proofs.Table.{header-table}
 use Rattle.cut.proofs.Table.{cut-table}
 use Rattle.block.proofs.Table.{block-table}
 use Rattle.table.proofs.Giving.{number-table}
+use Rattle.line.specs.Codes.{noteOf}
 use Rattle.line.proofs.Table.{limit-met}
+use Rattle.line.specs.declared.step.Remark.{Remark}
+use Rattle.line.specs.declared.step.Remark.the-variants as remark
+use Rattle.link.specs.Answer.{noteNumber, noteBy}
 use Rattle.link.specs.Table.{RefusalNumbers, NoteNumbers, ProvedTable}
 
 pub refusal-numbers : RefusalNumbers
@@ -30,15 +30,12 @@ refusal-numbers =
       replied = refl;
     }
 
-of-line : (e : Event) → noteNumber (noteBy e) ≡ noteOf e
-of-line event.Quiet = refl
-of-line event.Sent = refl
-of-line event.Failed = refl
-of-line event.GaveWay = refl
-of-line (event.Up n) = refl
-of-line event.NoLength = refl
-of-line event.Gap = refl
-of-line (event.Bad fault) = refl
+of-line : (r : Remark) → noteNumber (noteBy r) ≡ noteOf r
+of-line remark.Nothing = refl
+of-line remark.GaveWay = refl
+of-line remark.NoLength = refl
+of-line remark.Gap = refl
+of-line (remark.Bad fault) = refl
 
 pub note-numbers : NoteNumbers
 note-numbers =

@@ -1,8 +1,8 @@
 -- What a call answers, and the numbers of refusals and notes (01, "Refusal numbers and notes").
 use Prim.Native.Nat.{ℕ}
 use Rattle.line.specs.Codes.{faultNote}
-use Rattle.line.specs.declared.step.Event.{Event}
-use Rattle.line.specs.declared.step.Event.the-variants as event
+use Rattle.line.specs.declared.step.Remark.{Remark}
+use Rattle.line.specs.declared.step.Remark.the-variants as remark
 use Rattle.exchange.specs.Note.{noteNumber as blockNote}
 use Rattle.exchange.specs.Request.{refusalNumber as requestNumber}
 use Rattle.link.specs.declared.Refusal.{Refusal}
@@ -34,13 +34,10 @@ noteNumber note.NoLength = 28
 noteNumber note.Gap = 29
 noteNumber (note.Bad fault) = faultNote fault
 
--- what the line told, as a note. The note of a block that went up is its judge's.
-abbrev pub noteBy : Event → Note
-noteBy event.Quiet = note.Nothing
-noteBy event.Sent = note.Nothing
-noteBy event.Failed = note.Nothing
-noteBy event.GaveWay = note.Nothing
-noteBy (event.Up n) = note.Nothing
-noteBy event.NoLength = note.NoLength
-noteBy event.Gap = note.Gap
-noteBy (event.Bad fault) = note.Bad fault
+-- what the line remarked, as a note. The note of a block that went up is its judge's.
+abbrev pub noteBy : Remark → Note
+noteBy remark.Nothing = note.Nothing
+noteBy remark.GaveWay = note.Nothing
+noteBy remark.NoLength = note.NoLength
+noteBy remark.Gap = note.Gap
+noteBy (remark.Bad fault) = note.Bad fault

@@ -16,7 +16,7 @@ use Rattle.line.specs.declared.line.Line.{Line}
 use Rattle.exchange.specs.History as exchange
 use Rattle.link.specs.Run.{Left, blockBytes}
 use Rattle.link.specs.Reading.{sendingOf}
-use Rattle.link.specs.History.{Call, byte, tick, drained, primary, reply, free-own, free-incoming, called, Room, lentRoom, Made, cameTo, lineCalls, exchangeCalls, Track, answered, next, atStart}
+use Rattle.link.specs.History.{Call, byte, tick, drained, request, called, Room, lentRoom, Made, cameTo, lineCalls, exchangeCalls, Track, answered, next, atStart}
 use Rattle.link.specs.Inside.{Reached}
 use Rattle.link.specs.declared.Outcome.{Outcome}
 use Rattle.link.specs.declared.Outcome.the-variants as outcome
@@ -69,10 +69,7 @@ abbrev pub kind : Call → line.Call
 kind (byte b fits) = line.byte b fits
 kind tick = line.tick
 kind drained = line.drained
-kind (primary q d) = line.ask
-kind (reply p f d) = line.ask
-kind (free-own p) = line.ask
-kind (free-incoming p) = line.ask
+kind (request r) = line.ask
 
 -- a block is under way
 abbrev pub onWay : Ours → Bool
@@ -249,6 +246,7 @@ OverBy c line.tick bs sending after = (bs ≡ followed NAK sending) × (after .s
 OverBy c line.drained bs sending after = ⊥
 OverBy c line.ask bs sending after = ⊥
 OverBy c line.settle bs sending after = ⊥
+OverBy c line.withdraw bs sending after = ⊥
 
 abbrev pub ReceiveEndsBy : Type 0
 ReceiveEndsBy =
@@ -277,10 +275,7 @@ exchangeTick (exchange.block h d) = 0
 exchangeTick exchange.tick = 1
 exchangeTick exchange.acknowledged = 0
 exchangeTick exchange.failed = 0
-exchangeTick (exchange.primary q d) = 0
-exchangeTick (exchange.reply p f d) = 0
-exchangeTick (exchange.free-own p) = 0
-exchangeTick (exchange.free-incoming p) = 0
+exchangeTick (exchange.request r) = 0
 
 unfoldable pub exchangeTicks : List exchange.Call → ℕ
 exchangeTicks [] = 0

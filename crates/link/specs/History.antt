@@ -7,22 +7,21 @@ use Rattle.wire.specs.Bytes.{part}
 use Rattle.header.specs.Header.{firstTen}
 use Rattle.settings.specs.declared.limits.Limits.{Limits}
 use Rattle.settings.specs.declared.terms.Terms.{Terms}
-use Rattle.line.specs.Line.{Heard, byteOf, tickOf}
+use Rattle.line.specs.Line.{Heard, heard, stays}
 use Rattle.line.specs.History as line
-use Rattle.line.specs.declared.line.Line.{Line}
 use Rattle.line.specs.declared.step.Out.{Out}
 use Rattle.line.specs.declared.step.Out.the-variants as out
-use Rattle.line.specs.declared.step.Event.{Event}
-use Rattle.line.specs.declared.step.Event.the-variants as event
+use Rattle.line.specs.declared.step.Told.{Told}
+use Rattle.line.specs.declared.step.Told.the-variants as told
 use Rattle.place.specs.OwnHistory as own
 use Rattle.place.specs.IncomingHistory as incoming
+use Rattle.exchange.specs.Request.{Request, answerOf, lends, isSending}
 use Rattle.exchange.specs.History as exchange
 use Rattle.exchange.specs.Watching.{ownSees, incomingSees, watch}
 use Rattle.exchange.specs.declared.Exchange.{Exchange}
-use Rattle.exchange.specs.declared.Primary.{Primary}
 use Rattle.link.specs.State.{freshLink}
-use Rattle.link.specs.Run.{Left, left, hears, hasNext}
-use Rattle.link.specs.Call.{byteCall, tickCall, drainedCall, openCall, replyCall, releaseOwnCall, releaseIncomingCall}
+use Rattle.link.specs.Run.{Left, Telling, hasNext, passing, hears, hearing, byteStep, tickStep, drainedStep}
+use Rattle.link.specs.Call.{byteCall, tickCall, drainedCall, requestCall}
 use Rattle.link.specs.declared.Settings.{Settings}
 use Rattle.link.specs.declared.Outcome.{Outcome}
 use Rattle.link.specs.declared.Outcome.the-variants as outcome
@@ -33,19 +32,14 @@ use Rattle.link.specs.declared.Link.{Link}
 pub data Call : Type 0 where
   byte : (b : ℕ) → b < 256 → Call
   tick drained : Call
-  primary : Primary → (d : List ℕ) → Call
-  reply : (p f : ℕ) (d : List ℕ) → Call
-  free-own free-incoming : (p : ℕ) → Call
+  request : Request → Call
 
 -- what a call leaves, with this room and this output lent to it; a release is lent neither
 abbrev pub called : Link → List ℕ → List ℕ → Call → Left
 called u room o (byte b fits) = byteCall u b room o
 called u room o tick = tickCall u room o
 called u room o drained = drainedCall u room o
-called u room o (primary q d) = openCall u q d room o
-called u room o (reply p f d) = replyCall u p f d room o
-called u room o (free-own p) = left (releaseOwnCall u p) room o
-called u room o (free-incoming p) = left (releaseIncomingCall u p) room o
+called u room o (request r) = requestCall u r room o
 
 -- the room that is lent: as the last call left it, or another one
 pub data Room : Type 0 where
@@ -75,75 +69,81 @@ unlessRefused outcome.Done ks = ks
 unlessRefused (outcome.Taken p) ks = ks
 unlessRefused (outcome.Refused r) ks = []
 
--- after a byte: nothing where the whole block goes out; else the line settles, once the next block is asked for where one follows
-abbrev pub asksNext : Event → Bool → List line.Call
-asksNext event.Quiet next = []
-asksNext event.Sent next = cond next (line.ask ∷ []) []
-asksNext event.Failed next = []
-asksNext event.GaveWay next = []
-asksNext (event.Up n) next = []
-asksNext event.NoLength next = []
-asksNext event.Gap next = []
-asksNext (event.Bad fault) next = []
+-- the step that the line makes in a call, before the transactions are told: in a request it makes none
+abbrev pub stepIn : Link → Call → Heard
+stepIn u (byte b fits) = byteStep u b
+stepIn u tick = tickStep u
+stepIn u drained = drainedStep u
+stepIn u (request r) = heard (stays (u .line)) (u .received)
 
-abbrev pub settles : Out → Event → Bool → List line.Call
-settles out.Nothing e next = asksNext e next ++ (line.settle ∷ [])
-settles (out.Code c) e next = asksNext e next ++ (line.settle ∷ [])
-settles out.Block e next = []
+-- what the device tells becomes a call of the transactions: of a message's blocks they are told the end of the last one
+abbrev pub toldOn : Told → Bool → List ℕ → List exchange.Call
+toldOn told.Nothing next rs = []
+toldOn told.Sent next rs = cond next [] (exchange.acknowledged ∷ [])
+toldOn told.Failed next rs = exchange.failed ∷ []
+toldOn (told.Up n) next rs = exchange.block (firstTen rs) (part 10 n rs) ∷ []
 
-abbrev pub hearing : Link → ℕ → Heard
-hearing u b = byteOf (u .settings .limits) (u .line) b (u .received)
+-- and behind it what the call is to them by itself
+abbrev pub itself : Call → List exchange.Call
+itself (byte b fits) = []
+itself tick = exchange.tick ∷ []
+itself drained = []
+itself (request r) = exchange.request r ∷ []
 
-abbrev pub onLine : Link → Call → List line.Call
-onLine u (byte b fits) = line.byte b fits ∷ settles (hearing u b .step .out) (hearing u b .step .event) (hasNext u)
-onLine u tick = line.tick ∷ line.settle ∷ []
-onLine u drained = line.drained ∷ line.settle ∷ []
-onLine u (primary q d) = line.ask ∷ line.settle ∷ []
-onLine u (reply p f d) = line.ask ∷ line.settle ∷ []
-onLine u (free-own p) = []
-onLine u (free-incoming p) = []
-
--- what the line tells becomes a call of the transactions
-abbrev pub toldOn : Event → Bool → List ℕ → List exchange.Call
-toldOn event.Quiet next rs = []
-toldOn event.Sent next rs = cond next [] (exchange.acknowledged ∷ [])
-toldOn event.Failed next rs = exchange.failed ∷ []
-toldOn event.GaveWay next rs = []
-toldOn (event.Up n) next rs = exchange.block (firstTen rs) (part 10 n rs) ∷ []
-toldOn event.NoLength next rs = []
-toldOn event.Gap next rs = []
-toldOn (event.Bad fault) next rs = []
-
-abbrev pub heardOn : Out → Event → Bool → List ℕ → List exchange.Call
-heardOn out.Nothing e next rs = toldOn e next rs
-heardOn (out.Code c) e next rs = toldOn e next rs
-heardOn out.Block e next rs = []
-
-abbrev pub failsOn : Event → List exchange.Call
-failsOn event.Quiet = []
-failsOn event.Sent = []
-failsOn event.Failed = exchange.failed ∷ []
-failsOn event.GaveWay = []
-failsOn (event.Up n) = []
-failsOn event.NoLength = []
-failsOn event.Gap = []
-failsOn (event.Bad fault) = []
-
+-- All that the transactions hear of a call. They know no line: another device would tell them the same.
 abbrev pub onExchange : Link → Call → List exchange.Call
-onExchange u (byte b fits) = heardOn (hearing u b .step .out) (hearing u b .step .event) (hasNext u) (hearing u b .received)
-onExchange u tick = failsOn (tickOf (u .settings .limits) (u .line) .event) ++ (exchange.tick ∷ [])
-onExchange u drained = []
-onExchange u (primary q d) = exchange.primary q d ∷ []
-onExchange u (reply p f d) = exchange.reply p f d ∷ []
-onExchange u (free-own p) = exchange.free-own p ∷ []
-onExchange u (free-incoming p) = exchange.free-incoming p ∷ []
+onExchange u k = toldOn (stepIn u k .step .told) (hasNext u) (stepIn u k .received) ++ itself k
+
+-- what they make of the device's step
+abbrev pub heardBy : Link → Heard → List ℕ → Telling
+heardBy u h room = hearing (h .step .told) (h .step .remark) (hears u h) room
+
+-- what they are at the call's end
+abbrev pub exchangeIn : Link → List ℕ → Call → Exchange
+exchangeIn u room (byte b fits) = heardBy u (byteStep u b) room .midway .exchange
+exchangeIn u room tick = passing true (u .settings .terms) (heardBy u (tickStep u) room .midway) .exchange
+exchangeIn u room drained = u .exchange
+exchangeIn u room (request r) = answerOf (u .settings .terms) (u .exchange) r room .answer .exchange
+
+-- the courier's calls of the line, as `courierBy` has them
+abbrev pub goingOn : Told → List line.Call
+goingOn told.Nothing = []
+goingOn told.Sent = line.ask ∷ []
+goingOn told.Failed = []
+goingOn (told.Up n) = []
+
+abbrev pub couriers : Bool → Bool → Told → List line.Call
+couriers false false t = []
+couriers false true t = line.ask ∷ []
+couriers true false t = line.withdraw ∷ []
+couriers true true t = goingOn t
+
+-- the line settles behind the courier
+abbrev pub settling : List line.Call → List line.Call
+settling ks = ks ++ (line.settle ∷ [])
+
+-- "EOT puts out the whole block": nothing else is done in that call
+abbrev pub settles : Out → List line.Call → List line.Call
+settles out.Nothing ks = settling ks
+settles (out.Code c) ks = settling ks
+settles out.Block ks = []
+
+abbrev pub couriersIn : Link → List ℕ → Call → List line.Call
+couriersIn u room k = couriers (isSending (u .exchange)) (isSending (exchangeIn u room k)) (stepIn u k .step .told)
+
+-- what a call is to the line: a release nothing
+abbrev pub onLine : Link → List ℕ → Call → List line.Call
+onLine u room (byte b fits) = line.byte b fits ∷ settles (byteStep u b .step .out) (couriersIn u room (byte b fits))
+onLine u room tick = line.tick ∷ settling (couriersIn u room tick)
+onLine u room drained = line.drained ∷ settling (couriersIn u room drained)
+onLine u room (request r) = cond (lends r) (settling (couriersIn u room (request r))) []
 
 -- the outcome of a call, and what it tells by it
 abbrev pub cameTo : Link → List ℕ → List ℕ → Call → Outcome
 cameTo u room o k = called u room o k .answer .outcome
 
 abbrev pub lineCalls : Link → List ℕ → List ℕ → Call → List line.Call
-lineCalls u room o k = unlessRefused (cameTo u room o k) (onLine u k)
+lineCalls u room o k = unlessRefused (cameTo u room o k) (onLine u room k)
 
 abbrev pub exchangeCalls : Link → List ℕ → List ℕ → Call → List exchange.Call
 exchangeCalls u room o k = unlessRefused (cameTo u room o k) (onExchange u k)

@@ -3,21 +3,20 @@
 -- leaves its range. Each proof is in `proofs/`.
 use Prim.Native.Nat.{ℕ, _≤_, _<_}
 use mathlib.Core.Path.{_≡_}
-use mathlib.Core.Bool.{Bool, true, false, _||_}
+use mathlib.Core.Bool.{true, false}
 use mathlib.Core.List.{List, [], _∷_}
 use mathlib.Core.Logic.{_≢_}
 use lib.ListN.{length}
 use Rattle.header.specs.declared.header.Header.{Header}
-use Rattle.cut.specs.Blocks.{blockCount, partStart, partLength, headerAt, cutOf}
+use Rattle.wire.specs.Message.{messageLimit}
+use Rattle.cut.specs.Blocks.{mostBlocks, blockCount, partStart, partLength, headerAt, cutOf}
 use Rattle.cut.specs.declared.Cut.the-variants as cut
 use Rattle.block.specs.Block.{blockOf}
 use Rattle.room.specs.Room.{bytesIn}
 use Rattle.room.specs.declared.Message.the-variants as message
 use Rattle.line.specs.History as line
+use Rattle.line.specs.Line.{busy}
 use Rattle.line.specs.Theorems.{Reached as LineReached}
-use Rattle.line.specs.declared.phase.Phase.{Phase}
-use Rattle.line.specs.declared.phase.Phase.the-variants.{Idle, WaitEot, Draining, WaitAck, WaitLength, Body, Silence}
-use Rattle.line.specs.declared.line.Line.{Line}
 use Rattle.line.specs.declared.step.Out.the-variants as out
 use Rattle.exchange.specs.History as exchange
 use Rattle.exchange.specs.Theorems.{Reached as ExchangeReached}
@@ -25,13 +24,13 @@ use Rattle.exchange.specs.Watching.{OwnAt, IncomingAt}
 use Rattle.exchange.specs.Request.{isSending}
 use Rattle.exchange.specs.Send.{outgoingOf}
 use Rattle.exchange.specs.declared.Outgoing.the-variants as outgoing
-use Rattle.link.specs.Setup.{settledOf}
+use Rattle.link.specs.Setup.{rangedOf}
 use Rattle.link.specs.State.{linkInRange}
-use Rattle.link.specs.Run.{Left, blockBytes}
-use Rattle.link.specs.History.{Call, called, Room, kept, other, Made, hearing, cameTo, lineCalls, exchangeCalls, Track, lineTrack, exchangeTrack, limitsIn, termsIn, track, atStart}
+use Rattle.link.specs.Run.{Left, blockBytes, byteStep}
+use Rattle.link.specs.History.{Call, called, Room, kept, other, Made, cameTo, lineCalls, exchangeCalls, Track, lineTrack, exchangeTrack, limitsIn, termsIn, track, atStart}
 use Rattle.link.specs.declared.Setup.{Setup}
 use Rattle.link.specs.declared.Settings.{Settings}
-use Rattle.link.specs.declared.Settled.the-variants as settled
+use Rattle.link.specs.declared.Ranged.the-variants as ranged
 use Rattle.link.specs.declared.Refusal.the-variants as refusal
 use Rattle.link.specs.declared.Outcome.the-variants as outcome
 use Rattle.link.specs.declared.Link.{Link}
@@ -43,7 +42,7 @@ use Rattle.link.specs.declared.Link.{Link}
 pub record Reached (t : Track) : Type 0 where
   pub setup : Setup
   pub settings : Settings
-  pub started : settledOf setup ≡ settled.Settings settings
+  pub started : rangedOf setup ≡ ranged.Settings settings
   pub room : List ℕ
   pub whole : length room ≡ 36864
   pub calls : List Made
@@ -135,28 +134,16 @@ PlacesInside = Always Watched
 
 -- ---- the line and the transactions agree
 
--- a block of ours is under way: ENQ is out, the block is leaving, or ACK is waited for
-abbrev pub underWay : Phase → Bool
-underWay Idle = false
-underWay (WaitEot timer tries) = true
-underWay (Draining tries) = true
-underWay (WaitAck timer tries) = true
-underWay (WaitLength timer) = false
-underWay (Body timer a) = false
-underWay (Silence timer fault) = false
-
--- "a message is being sent or held", as the line has it: a block is under way, or held
-abbrev pub busy : Line → Bool
-busy l = underWay (l .phase) || l .held
-
 -- To the line and to the transactions 7, "a message is being sent or held", means the same; and the block that is on its way or held
 -- is one of the message.
 pub record Agree (t : Track) : Type 0 where
   pub same : isSending (t .link .exchange) ≡ busy (t .link .line)
   -- a message of 4,096 bytes makes 17 blocks
   pub first : 1 ≤ t .link .block
-  pub most : t .link .block ≤ 17
-  pub within : (h : Header) (n : ℕ) → outgoingOf (t .link .exchange) ≡ outgoing.Message h n → (t .link .block ≤ blockCount n) × (n ≤ 4096)
+  pub most : t .link .block ≤ mostBlocks
+  pub within : (h : Header) (n : ℕ) → outgoingOf (t .link .exchange) ≡ outgoing.Message h n → (t .link .block ≤ blockCount n) × (n ≤ messageLimit)
+  -- none is on its way where no message is being sent
+  pub idle : isSending (t .link .exchange) ≡ false → t .link .block ≡ 1
 
 abbrev pub Agrees : Type 0
 Agrees = Always Agree
@@ -175,7 +162,7 @@ pub record Whole (t : Track) : Type 0 where
 
 -- "EOT puts out the whole block": where the line has it put out, there is one
 abbrev pub WholeBlock : Type 0
-WholeBlock = Always (λ t. (b : ℕ) → hearing (t .link) b .step .out ≡ out.Block → Whole t)
+WholeBlock = Always (λ t. (b : ℕ) → byteStep (t .link) b .step .out ≡ out.Block → Whole t)
 
 -- ---- ranges
 

@@ -1,6 +1,7 @@
 pub mod Setup
 pub mod Answer
 pub mod State
+pub mod Courier
 pub mod Run
 pub mod Call
 pub mod Reading
@@ -10,6 +11,7 @@ pub mod Door
 pub mod Refusals
 pub mod Verdicts
 pub mod Moves
+pub mod Device
 pub mod Numbers
 pub mod SameMessage
 pub mod Table

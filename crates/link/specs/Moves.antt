@@ -1,42 +1,37 @@
 -- How one call of the unit moves what the onlookers of the places have seen, which note it answers and which flags it raises: so what
--- is said by these readings (`specs/Verdicts.antt`) is said of calls, answers and what the line tells. Each proof is in `proofs/`.
+-- is said by these readings (`specs/Verdicts.antt`) is said of answers and of what a call tells the transactions; what the line has to do
+-- with that is `specs/Device.antt`. Each proof is in `proofs/`.
 use Prim.Native.Nat.{ℕ, _+_, _≤_, _<_}
 use mathlib.Core.Path.{_≡_}
 use mathlib.Core.Bool.{Bool, true, false}
 use mathlib.Core.List.{List, [], _∷_, _++_}
 use mathlib.Core.Logic.{_↔_, _⊎_, _≢_}
-use lib.Dec.{eqb}
 use lib.ListN.{length}
-use Rattle.wire.specs.Bytes.{part}
-use Rattle.header.specs.Header.{InRange, headerOf, firstTen}
+use Rattle.header.specs.Header.{InRange, headerOf}
 use Rattle.header.specs.declared.header.Header.{Header}
 use Rattle.settings.specs.declared.terms.Terms.{Terms}
-use Rattle.line.specs.Codes.{ACK}
-use Rattle.line.specs.Line.{tickOf}
-use Rattle.line.specs.History as line
 use Rattle.line.specs.declared.phase.Fault.the-variants as fault
-use Rattle.line.specs.declared.step.Event.{Event}
-use Rattle.line.specs.declared.step.Event.the-variants as event
+use Rattle.line.specs.declared.step.Remark.{Remark}
+use Rattle.line.specs.declared.step.Remark.the-variants as remark
 use Rattle.place.specs.OwnHistory as own
 use Rattle.place.specs.IncomingHistory as incoming
 use Rattle.exchange.specs.Exchange.{ownPlace, incomingPlace}
 use Rattle.exchange.specs.Flags.{noFlags}
-use Rattle.exchange.specs.Request.{primaryHeader}
+use Rattle.exchange.specs.Request.{primary, reply, primaryHeader}
+use Rattle.exchange.specs.History as exchange
 use Rattle.exchange.specs.Refusals.{numberGiven, AsAsked}
 use Rattle.exchange.specs.Rules.{LowestAt, OfReply, OfMessage, ReplyHere, MessageHere, AlikeAt, FreeAt, AlikeHere, Ruled}
 use Rattle.exchange.specs.Theorems.{ThrowsOut as BlockThrowsOut, Flagged}
-use Rattle.exchange.specs.Watching.{sentFrom, acceptedAs, freedSeen}
+use Rattle.exchange.specs.Watching.{sentFrom, replyFrom, acceptedAs, freedSeen}
 use Rattle.exchange.specs.declared.Exchange.{Exchange}
 use Rattle.exchange.specs.declared.ReplyStage.{ReplyStage}
 use Rattle.exchange.specs.declared.ReplyStage.the-variants as stage
 use Rattle.exchange.specs.declared.Primary.{Primary}
 use Rattle.link.specs.Answer.{noteNumber}
-use Rattle.link.specs.Run.{hasNext}
-use Rattle.link.specs.History.{Call, byte, tick, drained, primary, reply, free-own, free-incoming, Made, hearing, lentRoom, Track, termsIn, answered, next}
+use Rattle.link.specs.History.{Call, byte, tick, drained, request, Made, stepIn, lentRoom, Track, termsIn, answered, onExchangeIn, next}
 use Rattle.link.specs.Inside.{Always}
-use Rattle.link.specs.Verdicts.{AtEach, accepts, Accepted, FreesOwn, FreesIncoming, replyStands, replyFrom}
+use Rattle.link.specs.Verdicts.{AtEach, accepts, Accepted, Tells, FreesOwn, FreesIncoming, replyStands}
 use Rattle.link.specs.declared.Outcome.the-variants as outcome
-use Rattle.link.specs.declared.Link.{Link}
 
 -- ---- what comes of a call
 
@@ -45,76 +40,33 @@ abbrev pub Refused : Track → Made → Type 0
 Refused t m = accepts (answered t m .answer .outcome) ≡ false
 
 -- 0.1 s passed: "a refused call is no tick"
-pub record Ticks (t : Track) (m : Made) : Type 0 where
-  pub accepted : Accepted t m
-  pub call : m .call ≡ tick
+abbrev pub Ticks : Track → Made → Type 0
+Ticks t m = Tells t m exchange.tick
 
 -- the number of its note
 abbrev pub noted : Track → Made → ℕ
 noted t m = noteNumber (answered t m .answer .note)
 
--- what the line tells in it
-abbrev pub tells : Link → Call → Event
-tells u (byte b fits) = hearing u b .step .event
-tells u tick = tickOf (u .settings .limits) (u .line) .event
-tells u drained = event.Quiet
-tells u (primary q d) = event.Quiet
-tells u (reply p f d) = event.Quiet
-tells u (free-own p) = event.Quiet
-tells u (free-incoming p) = event.Quiet
-
-pub record Tells (t : Track) (m : Made) (e : Event) : Type 0 where
-  pub accepted : Accepted t m
-  pub event : tells (t .link) (m .call) ≡ e
-
--- the received bytes once it has come
-abbrev pub received : Link → Call → List ℕ
-received u (byte b fits) = hearing u b .received
-received u tick = u .received
-received u drained = u .received
-received u (primary q d) = u .received
-received u (reply p f d) = u .received
-received u (free-own p) = u .received
-received u (free-incoming p) = u .received
-
 -- a block went up in it, with these ten header bytes and this data
-pub record GoesUp (t : Track) (m : Made) (h d : List ℕ) : Type 0 where
-  pub size : ℕ
-  pub told : Tells t m (event.Up size)
-  pub header : firstTen (received (t .link) (m .call)) ≡ h
-  pub rest : part 10 size (received (t .link) (m .call)) ≡ d
-
--- the byte x came in it
-abbrev pub comes : ℕ → Call → Bool
-comes x (byte b fits) = eqb b x
-comes x tick = false
-comes x drained = false
-comes x (primary q d) = false
-comes x (reply p f d) = false
-comes x (free-own p) = false
-comes x (free-incoming p) = false
-
--- "ACK means sent": the line tells so exactly if ACK came while it was waited for
-abbrev pub SentExactly : Type 0
-SentExactly = Always (λ t. (m : Made) → Tells t m event.Sent ↔ (Accepted t m × (comes ACK (m .call) ≡ true) × (t .seen .ours ≡ line.left)))
+abbrev pub GoesUp : Track → Made → List ℕ → List ℕ → Type 0
+GoesUp t m h d = Tells t m (exchange.block h d)
 
 -- ---- what a call is to own place p
 
 -- a primary was accepted, and this is its place
 pub record Opens (t : Track) (m : Made) (p : ℕ) (q : Primary) : Type 0 where
   pub rest : List ℕ
-  pub call : m .call ≡ primary q rest
+  pub told : Tells t m (exchange.request (primary q rest))
   pub place : answered t m .answer .outcome ≡ outcome.Taken p
 
 -- the last block of its primary was acknowledged
 pub record Acknowledges (t : Track) (m : Made) (p : ℕ) : Type 0 where
-  pub told : Tells t m event.Sent
-  pub last : hasNext (t .link) ≡ false
+  pub told : Tells t m exchange.acknowledged
   pub of-it : sentFrom (t .link .exchange .sending) p ≡ true
 
 -- a block of its primary failed
 pub record Loses (t : Track) (m : Made) (p : ℕ) : Type 0 where
-  pub told : Tells t m event.Failed
+  pub told : Tells t m exchange.failed
   pub of-it : sentFrom (t .link .exchange .sending) p ≡ true
 
 -- a block of its reply went up, and was noted n
@@ -268,19 +220,17 @@ IncomingSeen = AtEach (λ t p. (m : Made) → IncomingMoves t m p)
 
 -- it was accepted
 pub record Answers (t : Track) (m : Made) (p : ℕ) : Type 0 where
-  pub accepted : Accepted t m
   pub function : ℕ
   pub rest : List ℕ
-  pub call : m .call ≡ reply p function rest
+  pub told : Tells t m (exchange.request (reply p function rest))
 
 -- its last block was acknowledged; a block of it failed
 pub record ReplySent (t : Track) (m : Made) (p : ℕ) : Type 0 where
-  pub told : Tells t m event.Sent
-  pub last : hasNext (t .link) ≡ false
+  pub told : Tells t m exchange.acknowledged
   pub of-it : replyFrom (t .link .exchange .sending) p ≡ true
 
 pub record ReplyLost (t : Track) (m : Made) (p : ℕ) : Type 0 where
-  pub told : Tells t m event.Failed
+  pub told : Tells t m exchange.failed
   pub of-it : replyFrom (t .link .exchange .sending) p ≡ true
 
 -- it came to this in the call
@@ -298,21 +248,10 @@ ReplyEnds = AtEach (λ t p. (m : Made) → ReplyMoves t m p)
 
 -- ---- strays and duplicates
 
--- what the line tells that is the transactions' affair: a block was sent, a send failed, a block went up
-abbrev pub concerns : Event → Bool
-concerns event.Quiet = false
-concerns event.Sent = true
-concerns event.Failed = true
-concerns event.GaveWay = false
-concerns (event.Up n) = true
-concerns event.NoLength = false
-concerns event.Gap = false
-concerns (event.Bad fault) = false
-
 -- "no stray byte or duplicate block from the far end puts these limits off"
 pub data Stray (t : Track) (m : Made) : Type 0 where
   -- a byte with which no block went up and no send ended
-  dropped : (b : ℕ) (fits : b < 256) → m .call ≡ byte b fits → concerns (tells (t .link) (m .call)) ≡ false → Stray t m
+  dropped : (b : ℕ) (fits : b < 256) → m .call ≡ byte b fits → onExchangeIn t m ≡ [] → Stray t m
   -- a block that was noted 22, 23, 24 or 25
   thrown-out : 22 ≤ noted t m → noted t m ≤ 25 → Stray t m
 
@@ -339,35 +278,37 @@ DuplicateLeaves = (t : Track) (m : Made) → (noted t m ≡ 22) ⊎ (noted t m �
 abbrev pub ByteElsewhere : Type 0
 ByteElsewhere =
     AtEach (λ t p.
-    (m : Made) (b : ℕ) (fits : b < 256) → m .call ≡ byte b fits → ((n : ℕ) → tells (t .link) (m .call) ≢ event.Up n)
+    (m : Made) (b : ℕ) (fits : b < 256) → m .call ≡ byte b fits → ((h d : List ℕ) → GoesUp t m h d → ⊥)
     → sentFrom (t .link .exchange .sending) p ≡ false
     → (ownPlace (next t m .link .exchange) p ≡ ownPlace (t .link .exchange) p) × (next t m .own p ≡ t .own p))
 
 -- ---- notes
 
--- the line tells nothing that has a note
-abbrev pub unremarked : Event → Bool
-unremarked event.Quiet = true
-unremarked event.Sent = true
-unremarked event.Failed = true
-unremarked event.GaveWay = true
-unremarked (event.Up n) = false
-unremarked event.NoLength = false
-unremarked event.Gap = false
-unremarked (event.Bad fault) = false
+-- the line remarks this in it
+pub record Remarks (t : Track) (m : Made) (r : Remark) : Type 0 where
+  pub accepted : Accepted t m
+  pub remark : stepIn (t .link) (m .call) .step .remark ≡ r
+
+-- a remark that has no note
+abbrev pub unnoted : Remark → Bool
+unnoted remark.Nothing = true
+unnoted remark.GaveWay = true
+unnoted remark.NoLength = false
+unnoted remark.Gap = false
+unnoted (remark.Bad fault) = false
 
 pub data Noted (t : Track) (m : Made) : ℕ → Type 0 where
   -- "A refusal reports .. note 20"
   refused : Refused t m → Noted t m 20
   -- "20 nothing"
-  nothing : (e : Event) → Tells t m e → unremarked e ≡ true → Noted t m 20
+  nothing : (r : Remark) → ((h d : List ℕ) → GoesUp t m h d → ⊥) → Remarks t m r → unnoted r ≡ true → Noted t m 20
   -- "21 to 27 above": by the rule of exchange/specs/Rules.antt
   block : (h d : List ℕ) (n : ℕ) → GoesUp t m h d → Ruled (termsIn t) (t .link .exchange) h d n → Noted t m n
   -- "and with a NAK 28 no length in T2, 29 gap in body, 30 bad length, 31 bad sum"
-  no-length : Tells t m event.NoLength → Noted t m 28
-  gap : Tells t m event.Gap → Noted t m 29
-  bad-length : Tells t m (event.Bad fault.Length) → Noted t m 30
-  bad-sum : (came counted : ℕ) → Tells t m (event.Bad (fault.Sum came counted)) → Noted t m 31
+  no-length : Remarks t m remark.NoLength → Noted t m 28
+  gap : Remarks t m remark.Gap → Noted t m 29
+  bad-length : Remarks t m (remark.Bad fault.Length) → Noted t m 30
+  bad-sum : (came counted : ℕ) → Remarks t m (remark.Bad (fault.Sum came counted)) → Noted t m 31
 
 -- Each note exactly then.
 abbrev pub NotesLifted : Type 0
@@ -380,10 +321,7 @@ abbrev pub onTheLine : Call → Bool
 onTheLine (byte b fits) = true
 onTheLine tick = true
 onTheLine drained = true
-onTheLine (primary q d) = false
-onTheLine (reply p f d) = false
-onTheLine (free-own p) = false
-onTheLine (free-incoming p) = false
+onTheLine (request r) = false
 
 -- 6: a new primary went up that "throws that one out and takes its place": the open message in incoming place p
 pub record ThrowsOut (t : Track) (m : Made) (p : ℕ) : Type 0 where

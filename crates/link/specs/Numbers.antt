@@ -4,30 +4,28 @@
 -- before and after each call. Each proof is in `proofs/Numbering.antt`.
 use Prim.Native.Nat.{ℕ, _≤_}
 use mathlib.Core.List.{List, [], _∷_}
-use Rattle.exchange.specs.Numbers.{numberShown, NumbersSeen, latestSeen, numbersAtStart, NumbersAre, NumberNew}
+use Rattle.exchange.specs.Request.{Request}
+use Rattle.exchange.specs.Numbers.{numberShown, NumbersSeen, lastBy, latestSeen, numbersAtStart, NumbersAre, NumberNew}
 use Rattle.exchange.specs.declared.OwnReading.{OwnReading}
 use Rattle.exchange.specs.declared.Primary.{Primary}
 use Rattle.link.specs.Reading.{ownOf}
-use Rattle.link.specs.History.{Call, byte, tick, drained, primary, reply, free-own, free-incoming, Made, Track, answered, next, atStart}
+use Rattle.link.specs.History.{Call, byte, tick, drained, request, Made, Track, answered, next, atStart}
 use Rattle.link.specs.Inside.{Reached}
 use Rattle.link.specs.Moves.{Opens}
 use Rattle.link.specs.declared.Outcome.{Outcome}
 use Rattle.link.specs.declared.Outcome.the-variants.{Done, Taken, Refused}
 
--- a primary that was accepted shows its number; no other call gives one
-abbrev pub lastBy : Outcome → (ℕ → OwnReading) → ℕ → ℕ
-lastBy Done after last = last
-lastBy (Taken p) after last = numberShown (after p)
-lastBy (Refused r) after last = last
+-- what was accepted shows the number that it was given (`lastBy`, exchange/specs/Numbers.antt); no other call gives one
+abbrev pub lastOf : Outcome → Request → (ℕ → OwnReading) → ℕ → ℕ
+lastOf Done r after last = last
+lastOf (Taken p) r after last = lastBy r (after p) last
+lastOf (Refused n) r after last = last
 
 abbrev pub lastSeen : Call → Outcome → (ℕ → OwnReading) → ℕ → ℕ
 lastSeen (byte b fits) o after last = last
 lastSeen tick o after last = last
 lastSeen drained o after last = last
-lastSeen (primary q d) o after last = lastBy o after last
-lastSeen (reply p f d) o after last = last
-lastSeen (free-own p) o after last = last
-lastSeen (free-incoming p) o after last = last
+lastSeen (request r) o after last = lastOf o r after last
 
 -- one call: "On a tick the line goes first, then own places 0 to 3", which `latestSeen` tells by the verdicts
 abbrev pub numbersSees : Track → NumbersSeen → Made → NumbersSeen

@@ -1,6 +1,6 @@
 -- What a user reads of the unit.
 use Prim.Native.Nat.{ℕ}
-use mathlib.Core.Bool.{Bool, true, false}
+use mathlib.Core.Bool.{Bool}
 use mathlib.Core.List.{List, []}
 use Rattle.room.specs.Room.{bytesIn}
 use Rattle.room.specs.declared.Message.the-variants as message

@@ -3,44 +3,37 @@
 use Prim.Native.Nat.{ℕ, _*_, _≤_, _<_}
 use mathlib.Core.Path.{_≡_}
 use mathlib.Core.Bool.{Bool, true, false, not}
-use mathlib.Core.List.{List, []}
+use mathlib.Core.List.{List}
 use mathlib.Core.Logic.{_↔_, _≢_}
 use lib.Dec.{eqb}
 use lib.ListN.{length, take, drop}
 use Rattle.wire.specs.Bytes.{part}
+use Rattle.cut.specs.Blocks.{mostBlocks}
 use Rattle.header.specs.Header.{firstTen, headerOf}
 use Rattle.header.specs.declared.header.Header.{Header}
 use Rattle.room.specs.Room.{keptIn}
 use Rattle.room.specs.declared.Message.{Message}
 use Rattle.room.specs.declared.Message.the-variants as message
-use Rattle.line.specs.Line.{askOf, settleOf}
-use Rattle.line.specs.Range.{lineInRange}
-use Rattle.line.specs.declared.phase.Arrival.{Arrival}
-use Rattle.line.specs.declared.phase.Phase.{Phase}
-use Rattle.line.specs.declared.phase.Phase.the-variants.{Idle, WaitEot, Draining, WaitAck, WaitLength, Body, Silence}
+use Rattle.line.specs.Range.{lineInRange, LineFits}
 use Rattle.line.specs.declared.line.Line.{Line}
-use Rattle.line.specs.declared.step.Out.the-variants as out
-use Rattle.line.specs.declared.step.Event.the-variants as event
-use Rattle.place.specs.Range.{ownInRange, incomingInRange}
-use Rattle.place.specs.declared.OwnStage.{OwnStage}
-use Rattle.place.specs.declared.OwnStage.the-variants as own
+use Rattle.line.specs.declared.step.Told.the-variants as told
+use Rattle.place.specs.Range.{ownInRange, incomingInRange, OwnFits, IncomingFits}
 use Rattle.place.specs.declared.Own.{Own}
-use Rattle.place.specs.declared.IncomingStage.{IncomingStage}
-use Rattle.place.specs.declared.IncomingStage.the-variants as incoming
 use Rattle.place.specs.declared.Incoming.{Incoming}
 use Rattle.exchange.specs.Exchange.{ownPlace, incomingPlace}
 use Rattle.exchange.specs.Flags.{noFlags}
-use Rattle.exchange.specs.Range.{sendingInRange}
+use Rattle.exchange.specs.Range.{sendingInRange, SendingFits}
+use Rattle.exchange.specs.Request.{lends as lendsTo}
 use Rattle.exchange.specs.Rules.{Fours, LowestAt, OfReply, OfMessage, ReplyHere, MessageHere, AlikeAt, AlikeHere, FreeAt, bytesBefore}
-use Rattle.exchange.specs.Refusals.{NoVerdict, NotReady, OpenRuled, ReplyRuled, ReleaseRuled}
+use Rattle.exchange.specs.Refusals.{RequestRuled, FillsBy}
 use Rattle.exchange.specs.declared.Sending.{Sending}
-use Rattle.exchange.specs.declared.Sending.the-variants as sending
 use Rattle.exchange.specs.declared.Exchange.{Exchange}
 use Rattle.link.specs.Answer.{outcomeNumber, noteNumber}
 use Rattle.link.specs.Setup.{noSettings, settingsInRange}
 use Rattle.link.specs.State.{freshLink, refusedAs, linkInRange, startOf}
-use Rattle.link.specs.Run.{Left, left, codes, byteTurn, tickTurn, drainedTurn}
-use Rattle.link.specs.History.{Call, byte, tick, drained, primary, reply, free-own, free-incoming, called, unlessRefused, hearing, cameTo}
+use Rattle.link.specs.Run.{Left, left, blockBytes, byteStep}
+use Rattle.link.specs.History.{Call, byte, tick, drained, request, called, cameTo, lineCalls}
+use Rattle.link.specs.Door.{lineBytes}
 use Rattle.link.specs.declared.Setup.{Setup}
 use Rattle.link.specs.declared.Settings.{Settings}
 use Rattle.link.specs.declared.Refusal.{Refusal}
@@ -87,61 +80,9 @@ pub record SettingsFit (s : Settings) : Type 0 where
   pub t4-most : s .terms .t4 .0 ≤ 1200
   pub device-most : s .terms .device ≤ 32767
 
--- of a body: its timer, N, how many bytes have come, and their sum
-pub record ArrivalFits (timer : ℕ) (a : Arrival) : Type 0 where
-  pub timer-most : timer ≤ 100
-  pub length-least : 10 ≤ a .length
-  pub length-most : a .length ≤ 254
-  pub got-most : a .got ≤ 255
-  pub sum-most : a .sum ≤ 64770
-
-abbrev pub PhaseFits : Phase → Type 0
-PhaseFits Idle = Unit {0}
-PhaseFits (WaitEot timer tries) = (timer ≤ 250) × (tries ≤ 31)
-PhaseFits (Draining tries) = tries ≤ 31
-PhaseFits (WaitAck timer tries) = (timer ≤ 250) × (tries ≤ 31)
-PhaseFits (WaitLength timer) = timer ≤ 250
-PhaseFits (Body timer a) = ArrivalFits timer a
-PhaseFits (Silence timer fault) = timer ≤ 100
-
-abbrev pub LineFits : Line → Type 0
-LineFits l = PhaseFits (l .phase)
-
--- of a message whose blocks come: its timer, the next number, and its data bytes
-pub record OpenFits (timer next n : ℕ) : Type 0 where
-  pub timer-most : timer ≤ 1200
-  pub next-most : next ≤ 4097
-  pub length-most : n ≤ 4096
-
-abbrev pub OwnStageFits : OwnStage → Type 0
-OwnStageFits own.Free = Unit {0}
-OwnStageFits own.Sending = Unit {0}
-OwnStageFits (own.Awaiting timer) = timer ≤ 1200
-OwnStageFits (own.Replying timer next r) = OpenFits timer next (r .length)
-OwnStageFits (own.Done v r) = r .length ≤ 4096
-
-abbrev pub OwnFits : Own → Type 0
-OwnFits o = OwnStageFits (o .stage)
-
-abbrev pub IncomingStageFits : IncomingStage → Type 0
-IncomingStageFits incoming.Free = Unit {0}
-IncomingStageFits (incoming.Open timer next n) = OpenFits timer next n
-IncomingStageFits (incoming.Complete n) = n ≤ 4096
-IncomingStageFits (incoming.Replying n) = n ≤ 4096
-IncomingStageFits (incoming.Replied n e) = n ≤ 4096
-
-abbrev pub IncomingFits : Incoming → Type 0
-IncomingFits i = IncomingStageFits (i .stage)
-
--- the place and the data bytes of the message being sent
-abbrev pub SendingFits : Sending → Type 0
-SendingFits sending.Nothing = Unit {0}
-SendingFits (sending.Primary p n) = (p ≤ 3) × (n ≤ 4096)
-SendingFits (sending.Reply p f n) = (p ≤ 3) × (n ≤ 4096)
-
 pub record Fits (u : Link) : Type 0 where
   pub block-least : 1 ≤ u .block
-  pub block-most : u .block ≤ 17
+  pub block-most : u .block ≤ mostBlocks
   pub settings : SettingsFit (u .settings)
   pub line : LineFits (u .line)
   pub own : (p : ℕ) → p < 4 → OwnFits (ownPlace (u .exchange) p)
@@ -164,10 +105,7 @@ abbrev pub lends : Call → Bool
 lends (byte b fits) = true
 lends tick = true
 lends drained = true
-lends (primary q d) = true
-lends (reply p f d) = true
-lends (free-own p) = false
-lends (free-incoming p) = false
+lends (request r) = lendsTo r
 
 -- 1: "output buffer under 257 bytes"
 pub record OutputShort (k : Call) (o : List ℕ) : Type 0 where
@@ -194,10 +132,7 @@ abbrev pub RuledBehind : Link → Call → ℕ → Type 0
 RuledBehind u (byte b fits) n = n ≡ 0
 RuledBehind u tick n = n ≡ 0
 RuledBehind u drained n = n ≡ 0
-RuledBehind u (primary q d) n = OpenRuled (u .exchange) q d n
-RuledBehind u (reply p f d) n = ReplyRuled (u .exchange) p f d n
-RuledBehind u (free-own p) n = ReleaseRuled (NoVerdict (u .exchange) p) n
-RuledBehind u (free-incoming p) n = ReleaseRuled (NotReady (u .exchange) p) n
+RuledBehind u (request r) n = RequestRuled (u .exchange) r n
 
 -- "Order: 1, 2, 3, .. then" those; 0 is no refusal
 pub data Ruled (u : Link) (room o : List ℕ) (k : Call) : ℕ → Type 0 where
@@ -268,20 +203,6 @@ pub record StartExactly : Type 0 where
 
 -- ---- "A call writes only the output bytes it reports and the area bytes it fills."
 
--- the bytes that leave with a message that is accepted: the ENQ of its first block, if the line is idle
-abbrev pub asking : Link → List ℕ
-asking u = codes out.Nothing (settleOf (askOf (u .line)) .out)
-
--- those that leave in a call that is not refused
-abbrev pub leaving : Link → List ℕ → Call → List ℕ
-leaving u room (byte b fits) = byteTurn u b room .bytes
-leaving u room tick = tickTurn u room .bytes
-leaving u room drained = drainedTurn u room .bytes
-leaving u room (primary q d) = asking u
-leaving u room (reply p f d) = asking u
-leaving u room (free-own p) = []
-leaving u room (free-incoming p) = []
-
 -- these bytes were put at the output's front, and the call reports as many
 pub record WritesOutput (bs o : List ℕ) (l : Left) : Type 0 where
   pub count : l .answer .count ≡ length bs
@@ -305,15 +226,15 @@ pub data AreaOf (x : Exchange) (b : Header) : Message → Type 0 where
 
 -- the header of the block that a byte ended
 abbrev pub headerHeard : Link → ℕ → Header
-headerHeard u b = headerOf (firstTen (hearing u b .received))
+headerHeard u b = headerOf (firstTen (byteStep u b .received))
 
 -- the block went up, and its data was kept behind what its message had
 pub record BlockKept (u : Link) (b : ℕ) (room after : List ℕ) : Type 0 where
   pub size : ℕ
-  pub up : hearing u b .step .event ≡ event.Up size
+  pub up : byteStep u b .step .told ≡ told.Up size
   pub area : Message
   pub of : AreaOf (u .exchange) (headerHeard u b) area
-  pub kept : after ≡ keptIn room area (bytesBefore (u .exchange) (headerHeard u b)) (part 10 size (hearing u b .received))
+  pub kept : after ≡ keptIn room area (bytesBefore (u .exchange) (headerHeard u b)) (part 10 size (byteStep u b .received))
 
 -- What a call that is not refused leaves of the room: every byte; or its data is put anew into one area, "the area bytes it fills", and
 -- no other byte changes (`KeepsOnly` in room's `specs/Theorems.antt`). Note 21 is that of a block that is kept.
@@ -322,13 +243,11 @@ FillsRoom u room (byte b fits) a after =
     (noteNumber (a .note) ≢ 21 → after ≡ room) × (noteNumber (a .note) ≡ 21 → Fours (u .exchange) → BlockKept u b room after)
 FillsRoom u room tick a after = after ≡ room
 FillsRoom u room drained a after = after ≡ room
-FillsRoom u room (primary q d) a after = after ≡ keptIn room message.Send 0 d
-FillsRoom u room (reply p f d) a after = after ≡ keptIn room message.Send 0 d
-FillsRoom u room (free-own p) a after = after ≡ room
-FillsRoom u room (free-incoming p) a after = after ≡ room
+FillsRoom u room (request r) a after = FillsBy r room after
 
 pub record Writes (u : Link) (room o : List ℕ) (k : Call) (l : Left) : Type 0 where
-  pub output : WritesOutput (unlessRefused (l .answer .outcome) (leaving u room k)) o l
+  -- what leaves is what the line puts out by the calls that this one makes on it (`LeavesByLine`, specs/Door.antt)
+  pub output : WritesOutput (lineBytes (u .settings .limits) (u .line) (u .received) (blockBytes u room) (lineCalls u room o k)) o l
   pub size : length (l .room) ≡ length room
   pub refused : outcomeNumber (l .answer .outcome) ≢ 0 → l .room ≡ room
   pub accepted : outcomeNumber (l .answer .outcome) ≡ 0 → FillsRoom u room k (l .answer) (l .room)

@@ -7,6 +7,7 @@ use mathlib.Core.Bool.{true, false, cond, not}
 use mathlib.Core.List.{List, [], _∷_, _++_}
 use lib.ListN.{length, take, replicate}
 use Rattle.wire.specs.Bytes.{Bytes}
+use Rattle.wire.specs.Message.{messageLimit}
 use Rattle.header.specs.Theorems.{SameElse}
 use Rattle.header.specs.declared.header.Header.{Header}
 use Rattle.cut.specs.Blocks.{blockCount}
@@ -162,7 +163,7 @@ pub record Sendable (q : Primary) : Type 0 where
 -- data that is not refused by 6, "data above 4,096 bytes"
 pub record Carriable (d : List ℕ) : Type 0 where
   pub bytes : Bytes d
-  pub short : length d ≤ 4096
+  pub short : length d ≤ messageLimit
 
 -- the function of a reply that is not refused by 5, "in a reply, neither primary + 1 nor 0", and the verdict that it earns: "2 answered
 -- (complete reply, same stream, function one higher); 3 declined (same stream, function 0)". "After F255 only a function 0 reply

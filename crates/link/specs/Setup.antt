@@ -1,6 +1,5 @@
 -- The settings: as they are handed to a start, and as the unit goes by them (01, "Settings and time").
-use Prim.Native.Nat.{ℕ}
-use mathlib.Core.Bool.{Bool, true, false, cond, not, _&&_}
+use mathlib.Core.Bool.{Bool, false, cond, not, _&&_}
 use lib.Dec.{ltb}
 use Rattle.settings.specs.Panel.{tenthsTicks, fifthsTicks, secondsTicks}
 use Rattle.settings.specs.Limits.{takenOf, limitsInRange}
@@ -14,8 +13,8 @@ use Rattle.settings.specs.declared.terms.Agreed.{Agreed}
 use Rattle.settings.specs.declared.terms.Agreed.the-variants as agreed
 use Rattle.link.specs.declared.Setup.{Setup}
 use Rattle.link.specs.declared.Settings.{Settings}
-use Rattle.link.specs.declared.Settled.{Settled}
-use Rattle.link.specs.declared.Settled.the-variants.{Settings as Kept, OutOfRange}
+use Rattle.link.specs.declared.Ranged.{Ranged}
+use Rattle.link.specs.declared.Ranged.the-variants.{Settings as Kept, OutOfRange}
 
 -- the line's settings; "host = slave, equipment = master"
 abbrev pub panelOf : Setup → Panel
@@ -25,17 +24,17 @@ panelOf s = record { t1 = s .t1; t2 = s .t2; rty = s .rty; master = not (s .host
 abbrev pub messagesOf : Setup → MessagePanel
 messagesOf s = record { t3 = s .t3; t4 = s .t4; device = s .device; duplicates = s .duplicates; host = s .host }
 
-abbrev pub agreedBy : Agreed → Limits → Settled
+abbrev pub agreedBy : Agreed → Limits → Ranged
 agreedBy (agreed.Terms terms) limits = Kept (record { limits = limits; terms = terms })
 agreedBy agreed.OutOfRange limits = OutOfRange
 
-abbrev pub takenBy : Taken → Setup → Settled
+abbrev pub takenBy : Taken → Setup → Ranged
 takenBy (taken.Limits limits) s = agreedBy (agreedOf (messagesOf s)) limits
 takenBy taken.OutOfRange s = OutOfRange
 
 -- refusal 4: "setting out of range"
-unfoldable pub settledOf : Setup → Settled
-settledOf s = cond (ltb 31 (s .rty)) OutOfRange (takenBy (takenOf (panelOf s)) s)
+unfoldable pub rangedOf : Setup → Ranged
+rangedOf s = cond (ltb 31 (s .rty)) OutOfRange (takenBy (takenOf (panelOf s)) s)
 
 -- settings of no unit: none of T1 to T4 is in its range
 abbrev pub noSettings : Settings

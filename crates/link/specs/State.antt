@@ -1,10 +1,11 @@
 -- The unit's state: a fresh one, its ranges (docs/STATE.md), what changes a part of it, and what a refused call answers.
 use Prim.Native.Nat.{ℕ}
-use mathlib.Core.Bool.{Bool, true, false, cond, _&&_}
+use mathlib.Core.Bool.{Bool, cond, _&&_}
 use mathlib.Core.List.{List, []}
-use lib.Dec.{eqb, ltb, leb}
-use lib.ListN.{replicate, length}
+use lib.Dec.{eqb, ltb}
+use lib.ListN.{replicate}
 use Rattle.settings.specs.Panel.{between}
+use Rattle.cut.specs.Blocks.{mostBlocks}
 use Rattle.room.specs.Room.{roomSize}
 use Rattle.line.specs.Line.{freshLine}
 use Rattle.line.specs.Range.{lineInRange}
@@ -14,11 +15,11 @@ use Rattle.exchange.specs.Range.{exchangeInRange}
 use Rattle.exchange.specs.Flags.{noFlags}
 use Rattle.exchange.specs.declared.Flags.{Flags}
 use Rattle.exchange.specs.declared.Exchange.{Exchange}
-use Rattle.link.specs.Setup.{settledOf, noSettings, settingsInRange}
+use Rattle.link.specs.Setup.{rangedOf, noSettings, settingsInRange}
 use Rattle.link.specs.declared.Setup.{Setup}
 use Rattle.link.specs.declared.Settings.{Settings}
-use Rattle.link.specs.declared.Settled.{Settled}
-use Rattle.link.specs.declared.Settled.the-variants as settled
+use Rattle.link.specs.declared.Ranged.{Ranged}
+use Rattle.link.specs.declared.Ranged.the-variants as ranged
 use Rattle.link.specs.declared.Refusal.{Refusal}
 use Rattle.link.specs.declared.Refusal.the-variants as refusal
 use Rattle.link.specs.declared.Outcome.{Outcome}
@@ -45,9 +46,6 @@ withHeard u l rs = record { settings = u .settings; line = l; received = rs; exc
 abbrev pub withExchange : Link → Exchange → Link
 withExchange u x = record { settings = u .settings; line = u .line; received = u .received; exchange = x; block = u .block }
 
-abbrev pub withBlock : Link → ℕ → Link
-withBlock u k = record { settings = u .settings; line = u .line; received = u .received; exchange = u .exchange; block = k }
-
 -- a unit of these parts: of the received bytes no range is asked
 abbrev pub partsOf : Settings → Line → Exchange → ℕ → Link
 partsOf s l x k = record { settings = s; line = l; received = []; exchange = x; block = k }
@@ -63,7 +61,7 @@ refusedAs u r = answerAs u 0 (outcome.Refused r) note.Nothing noFlags
 
 -- "a field outside the ranges listed in docs/"
 unfoldable pub linkInRange : Link → Bool
-linkInRange u = between 1 (u .block) 17 && (settingsInRange (u .settings) && (lineInRange (u .line) && exchangeInRange (u .exchange)))
+linkInRange u = between 1 (u .block) mostBlocks && (settingsInRange (u .settings) && (lineInRange (u .line) && exchangeInRange (u .exchange)))
 
 -- 1: "output buffer under 257 bytes"
 unfoldable pub outputShort : ℕ → Bool
@@ -82,9 +80,9 @@ gateOf u room out =
 -- ---- the start
 
 -- a refused start hands back a unit whose settings are out of their ranges: every call refuses it by 3
-abbrev pub startBy : Settled → ℕ → Answer
-startBy (settled.Settings s) last = answerAs (freshLink s last) 0 outcome.Done note.Nothing noFlags
-startBy settled.OutOfRange last = refusedAs (freshLink noSettings 0) refusal.Setting
+abbrev pub startBy : Ranged → ℕ → Answer
+startBy (ranged.Settings s) last = answerAs (freshLink s last) 0 outcome.Done note.Nothing noFlags
+startBy ranged.OutOfRange last = refusedAs (freshLink noSettings 0) refusal.Setting
 
 abbrev pub startOf : Setup → Answer
-startOf s = startBy (settledOf s) (s .last)
+startOf s = startBy (rangedOf s) (s .last)

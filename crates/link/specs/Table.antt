@@ -8,7 +8,7 @@ use Rattle.block.specs.Table.{BlockTable}
 use Rattle.table.specs.Theorems.{NumberTable}
 use Rattle.line.specs.Table.{LimitMet}
 use Rattle.line.specs.Codes.{noteOf}
-use Rattle.line.specs.declared.step.Event.{Event}
+use Rattle.line.specs.declared.step.Remark.{Remark}
 use Rattle.line.specs.declared.phase.Fault.the-variants as fault
 use Rattle.exchange.specs.declared.Note.the-variants as block
 use Rattle.exchange.specs.declared.Refusal.the-variants as request
@@ -48,7 +48,7 @@ pub record NoteNumbers : Type 0 where
   pub bad-length : noteNumber (note.Bad fault.Length) ≡ 30
   pub bad-sum : (received counted : ℕ) → noteNumber (note.Bad (fault.Sum received counted)) ≡ 31
   -- they are the line's own
-  pub of-line : (e : Event) → noteNumber (noteBy e) ≡ noteOf e
+  pub of-line : (r : Remark) → noteNumber (noteBy r) ≡ noteOf r
 
 -- "Proved as a single table, by one statement about the definitions"
 pub record ProvedTable : Type 0 where

@@ -1,12 +1,12 @@
 -- What is proved of verdicts, and of the far end's messages, over every list of the unit's calls from a start, refused ones among them
 -- (`specs/History.antt`): the third demand. `t .own p` and `t .incoming p` are what the onlookers of place p have seen; how one call
--- more moves them is in `specs/Moves.antt`. Each proof is in `proofs/`.
+-- more moves them is in `specs/Moves.antt`. All of it is said by what a call tells the transactions and by what a user reads, nothing by
+-- the line: of a second device the same text would hold. Each proof is in `proofs/`.
 use Prim.Native.Nat.{ℕ, _+_, _≤_, _<_}
 use mathlib.Core.Path.{_≡_}
 use mathlib.Core.Bool.{Bool, true, false}
 use mathlib.Core.List.{List, [], _∷_}
 use mathlib.Core.Logic.{_↔_, _⊎_}
-use lib.Dec.{eqb}
 use lib.ListN.{length}
 use Rattle.header.specs.declared.header.Header.{Header}
 use Rattle.place.specs.Message.{Continues, Whole, noHeader, firstOf}
@@ -19,6 +19,7 @@ use Rattle.place.specs.declared.Verdict.the-variants.{Answered}
 use Rattle.place.specs.declared.Standing.{Standing}
 use Rattle.place.specs.declared.Standing.the-variants.{Free, Given}
 use Rattle.exchange.specs.Exchange.{ownPlace, incomingPlace}
+use Rattle.exchange.specs.Reading.{stageBy, hasEnded}
 use Rattle.exchange.specs.Rules.{OfMessage}
 use Rattle.exchange.specs.Theorems.{Reached as ExchangeReached, byVerdict}
 use Rattle.exchange.specs.declared.OwnReading.{OwnReading}
@@ -26,11 +27,12 @@ use Rattle.exchange.specs.declared.OwnReading.the-variants as reading
 use Rattle.exchange.specs.declared.IncomingReading.{IncomingReading}
 use Rattle.exchange.specs.declared.IncomingReading.the-variants as arrival
 use Rattle.exchange.specs.declared.ReplyStage.{ReplyStage}
-use Rattle.exchange.specs.declared.ReplyStage.the-variants.{NotOwed, Owed, OnItsWay, Sent, Failed}
-use Rattle.exchange.specs.declared.Sending.{Sending}
-use Rattle.exchange.specs.declared.Sending.the-variants as sending
+use Rattle.exchange.specs.declared.ReplyStage.the-variants.{OnItsWay}
 use Rattle.link.specs.Reading.{ownOf, incomingOf, replyData, incomingData}
-use Rattle.link.specs.History.{free-own, free-incoming, Made, Track, exchangeTrack, termsIn, answered, next, track}
+use Rattle.exchange.specs.Request.{free-own, free-incoming}
+use Rattle.exchange.specs.History as exchange
+use Rattle.exchange.specs.Watching.{replyFrom}
+use Rattle.link.specs.History.{Made, Track, exchangeTrack, termsIn, answered, onExchangeIn, next, track}
 use Rattle.link.specs.Inside.{Always, ReachedBack}
 use Rattle.link.specs.declared.Outcome.{Outcome}
 use Rattle.link.specs.declared.Outcome.the-variants as outcome
@@ -102,14 +104,21 @@ accepts (outcome.Refused r) = false
 abbrev pub Accepted : Track → Made → Type 0
 Accepted t m = accepts (answered t m .answer .outcome) ≡ true
 
--- a release of own place p, of incoming place p, that was accepted
-pub record FreesOwn (t : Track) (m : Made) (p : ℕ) : Type 0 where
-  pub accepted : Accepted t m
-  pub call : m .call ≡ free-own p
+-- one of these
+pub data Among {A : Type 0} (k : A) : List A → Type 0 where
+  here : {ks : List A} → Among k (k ∷ ks)
+  later : {j : A} {ks : List A} → Among k ks → Among k (j ∷ ks)
 
-pub record FreesIncoming (t : Track) (m : Made) (p : ℕ) : Type 0 where
-  pub accepted : Accepted t m
-  pub call : m .call ≡ free-incoming p
+-- it tells the transactions this; a refused call tells them nothing
+abbrev pub Tells : Track → Made → exchange.Call → Type 0
+Tells t m k = Among k (onExchangeIn t m)
+
+-- a release of own place p, of incoming place p, that was accepted
+abbrev pub FreesOwn : Track → Made → ℕ → Type 0
+FreesOwn t m p = Tells t m (exchange.request (free-own p))
+
+abbrev pub FreesIncoming : Track → Made → ℕ → Type 0
+FreesIncoming t m p = Tells t m (exchange.request (free-incoming p))
 
 -- none is among these calls
 pub data Unless (Frees : Track → Made → Type 0) : Track → List Made → Type 0 where
@@ -232,30 +241,12 @@ MessageRead = (t : Track) → ReachedBack t → (p : ℕ) → p < 4 → isThere 
 
 -- ---- our reply to a message: "A reply of ours ends sent or failed in its incoming place."
 
-abbrev pub stageBy : IncomingReading → ReplyStage
-stageBy arrival.NoPlace = NotOwed
-stageBy (arrival.Place h n c r) = r
-
 abbrev pub replyStands : Track → ℕ → ReplyStage
 replyStands t p = stageBy (incomingOf (t .link) p)
-
--- the message being sent is the reply of incoming place p
-abbrev pub replyFrom : Sending → ℕ → Bool
-replyFrom sending.Nothing p = false
-replyFrom (sending.Primary q n) p = false
-replyFrom (sending.Reply q f n) p = eqb q p
 
 -- It is on its way exactly while it is the message "being sent or held".
 abbrev pub OnItsWayExactly : Type 0
 OnItsWayExactly = AtEach (λ t p. (replyStands t p ≡ OnItsWay) ↔ (replyFrom (t .link .exchange .sending) p ≡ true))
-
--- its end, which is its verdict
-abbrev pub hasEnded : ReplyStage → Bool
-hasEnded NotOwed = false
-hasEnded Owed = false
-hasEnded OnItsWay = false
-hasEnded Sent = true
-hasEnded Failed = true
 
 -- "at most one verdict and keeps it until released": the whole place is as it was
 pub record EndStays (before after : Track) (p : ℕ) : Type 0 where

@@ -37,7 +37,7 @@ pub struct Settings {
 }
 
 // Whether each setting is in its range.
-pub enum Settled {
+pub enum Ranged {
     Settings(Settings),
     OutOfRange,
 }
@@ -49,7 +49,7 @@ pub struct Link {
     // The bytes of the block that is being received.
     pub received: [u8; 256],
     pub exchange: Exchange,
-    // Which block of the message being sent is on its way or held.
+    // Which block of the message being sent is on its way or held; 1 while none is being sent. The courier alone sets it.
     pub block: u16,
 }
 
@@ -107,13 +107,15 @@ pub enum Gate {
     Shut(Refusal),
 }
 
-// What the line tells, as far as it is the transactions' affair.
-pub enum Affair {
-    None,
-    // The block was acknowledged.
-    Sent,
-    // The send failed.
-    Failed,
-    // A block of N bytes went up.
-    Up(u8),
+// A call midway, once the transactions were told: what they are then, and note and flags so far.
+pub struct Midway {
+    pub exchange: Exchange,
+    pub note: Note,
+    pub flags: Flags,
+}
+
+// What the courier leaves: the line, and which block of the message being sent is on its way or held.
+pub struct Carried {
+    pub line: Line,
+    pub block: u16,
 }

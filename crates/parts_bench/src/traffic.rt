@@ -44,6 +44,7 @@ use crate::text;
 use crate::text::Field;
 use crate::text::Role;
 use exchange::Asked;
+use exchange::Changed;
 use exchange::Exchange;
 use exchange::Flags;
 use exchange::IncomingReading;
@@ -53,7 +54,6 @@ use exchange::OwnReading;
 use exchange::Primary;
 use exchange::ReplyStage;
 use exchange::Requested;
-use exchange::Told;
 use header::Header;
 use place::Reply;
 use place::Standing;
@@ -379,8 +379,8 @@ fn make(
             function,
             count,
         } => asked(clerk::reply(exchange, place, function, text::first(bytes, count), room)),
-        Call::Sent => told(clerk::sent(exchange)),
-        Call::Failed => told(clerk::failed(exchange)),
+        Call::Sent => changed(clerk::sent(exchange)),
+        Call::Failed => changed(clerk::failed(exchange)),
         Call::Block { count } => judge(terms, exchange, text::first(bytes, count), room),
         Call::Ticks(count) => tick_on(terms, exchange, count),
         Call::ReleaseOwn(place) => released(clerk::release_own(exchange, place)),
@@ -427,14 +427,14 @@ fn show_header(header: Header) {
 }
 
 // The end of a sending.
-fn told(told: Told) -> Exchange {
-    let flags = told.flags;
+fn changed(changed: Changed) -> Exchange {
+    let flags = changed.flags;
     if any_flag(flags) {
         show_flags(flags);
     } else {
         show::text(b"-");
     }
-    told.exchange
+    changed.exchange
 }
 
 // A block goes up.
@@ -467,9 +467,9 @@ fn tick_on(terms: Terms, before: Exchange, count: u16) -> Exchange {
     let mut i: u16 = 0;
     while i < count {
         i += 1;
-        let told = clerk::tick(exchange, terms);
-        shown = show_tick(shown, i, told.flags);
-        exchange = told.exchange;
+        let changed = clerk::tick(exchange, terms);
+        shown = show_tick(shown, i, changed.flags);
+        exchange = changed.exchange;
     }
     if !shown {
         show::text(b"-");

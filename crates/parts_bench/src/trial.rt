@@ -12,18 +12,20 @@
 // the line: what goes up is not judged, and no next block is asked for but by `A`.
 //
 // It prints 4, and nothing of the calls, if a setting is out of its range. Else it prints 0, and for each CALLS a space and
-// what came of them. That is, for each call that put something out or told something, in their order and with a comma between
-// two: what went out, a code as two hex digits and our whole block as `*`; then what was told, which is `/sent`, `/failed`,
-// `/gave-way`, `/up=` and the N bytes of the block that came, or `/` and the note of a NAK. `-` stands where no call did.
+// what came of them. That is, for each call that put something out, told or remarked something, in their order and with a comma
+// between two: what went out, a code as two hex digits and our whole block as `*`; then what was told, which is `/sent`,
+// `/failed`, or `/up=` and the N bytes of the block that came, or what was remarked, which is `/gave-way`, or `/` and the note of a
+// NAK. `-` stands where no call did.
 // CALLS that can't be read print `?`, and end the run. If ROLE or a setting can't be read, `?` is all.
 use crate::show;
 use crate::text;
 use crate::text::Field;
 use crate::text::Role;
-use line::Event;
 use line::Line;
 use line::Out;
+use line::Remark;
 use line::Step;
+use line::Told;
 use settings::Fifths;
 use settings::Limits;
 use settings::Panel;
@@ -128,12 +130,13 @@ fn run_letter(line: Line, letter: u8, received: &[u8; 256]) -> Made {
     }
 }
 
-// A call that left the line so. By itself it puts nothing out and tells nothing: what comes of it, settling does.
+// A call that left the line so. By itself it puts nothing out, and tells and remarks nothing: what comes of it, settling does.
 fn run_still(line: Line, received: &[u8; 256]) -> Made {
     let step = Step {
         line,
         out: Out::Nothing,
-        event: Event::Quiet,
+        told: Told::Nothing,
+        remark: Remark::Nothing,
     };
     done(settled(begun(line), step, received))
 }
@@ -194,7 +197,7 @@ fn done(trial: Trial) -> Made {
     Made::Line(line)
 }
 
-// The end of a call: the line settles, and what the call put out and told is shown.
+// The end of a call: the line settles, and what the call put out, told and remarked is shown.
 fn settled(before: Trial, step: Step, received: &[u8; 256]) -> Trial {
     let called = step.line;
     let last = called.settle();
@@ -212,18 +215,29 @@ fn settled(before: Trial, step: Step, received: &[u8; 256]) -> Trial {
     }
     show_out(step);
     show_out(last);
-    show_event(step, received);
-    show_event(last, received);
+    show_told(step, received);
+    show_remark(step);
+    show_told(last, received);
+    show_remark(last);
     Trial { line, shown: true }
 }
 
-// Whether a step put nothing out and told nothing.
+// Whether a step put nothing out, and told and remarked nothing.
 fn still(step: Step) -> bool {
     let out = step.out;
-    let event = step.event;
     match out {
-        Out::Nothing => match event {
-            Event::Quiet => true,
+        Out::Nothing => quiet(step),
+        _ => false,
+    }
+}
+
+// Whether a step told and remarked nothing.
+fn quiet(step: Step) -> bool {
+    let told = step.told;
+    let remark = step.remark;
+    match told {
+        Told::Nothing => match remark {
+            Remark::Nothing => true,
             _ => false,
         },
         _ => false,
@@ -241,17 +255,25 @@ fn show_out(step: Step) {
 }
 
 // What a step told.
-fn show_event(step: Step, received: &[u8; 256]) {
-    let event = step.event;
-    match event {
-        Event::Quiet => (),
-        Event::Sent => show::text(b"/sent"),
-        Event::Failed => show::text(b"/failed"),
-        Event::GaveWay => show::text(b"/gave-way"),
-        Event::Up(n) => show_block(n, received),
-        Event::NoLength => show_note(event),
-        Event::Gap => show_note(event),
-        Event::Bad(_) => show_note(event),
+fn show_told(step: Step, received: &[u8; 256]) {
+    let told = step.told;
+    match told {
+        Told::Nothing => (),
+        Told::Sent => show::text(b"/sent"),
+        Told::Failed => show::text(b"/failed"),
+        Told::Up(n) => show_block(n, received),
+    }
+}
+
+// What a step remarked.
+fn show_remark(step: Step) {
+    let remark = step.remark;
+    match remark {
+        Remark::Nothing => (),
+        Remark::GaveWay => show::text(b"/gave-way"),
+        Remark::NoLength => show_note(remark),
+        Remark::Gap => show_note(remark),
+        Remark::Bad(_) => show_note(remark),
     }
 }
 
@@ -264,7 +286,7 @@ fn show_block(n: u8, received: &[u8; 256]) {
 }
 
 // The note of a NAK.
-fn show_note(event: Event) {
+fn show_note(remark: Remark) {
     show::text(b"/");
-    show::decimal(event.note() as usize);
+    show::decimal(remark.note() as usize);
 }

@@ -1,20 +1,19 @@
 -- What becomes of a block that comes to an own place, exactly when. Assumes nothing.
 use Prim.Native.Nat.{ℕ}
-use mathlib.Core.Path.{_≡_, refl, sym, ap, subst}
+use mathlib.Core.Path.{_≡_, refl, sym, subst}
 use mathlib.Core.Bool.{true, cond, false≢true}
 use mathlib.Core.List.{List}
 use mathlib.Core.Logic.{_↔_, inl, inr, ⊎-elim}
 use native.Mathlib.Omega.{arith}
 use Rattle.wire.proofs.Choice.{judged}
-use Rattle.header.specs.Header.{headerOf}
 use Rattle.header.specs.declared.header.Header.{Header}
 use Rattle.settings.specs.declared.terms.Terms.{Terms}
 use Rattle.place.specs.Fate.{fateOf}
 use Rattle.place.specs.Message.{Routed}
-use Rattle.place.specs.Own.{replyHeader, keptAt, continuesReply, ownTakes}
+use Rattle.place.specs.Own.{keptAt, ownTakes}
 use Rattle.place.specs.OwnHistory.{Answer, passed, kept, spoilt, answerBy, answerTo, Seen, Track}
 use Rattle.place.specs.OwnTheorems.{Due, Becomes, AnswerExactly}
-use Rattle.place.proofs.Messages.{continues, by-fate}
+use Rattle.place.proofs.Messages.{by-fate}
 use Rattle.place.proofs.OwnInvariant.{At, placeAt, meet, is-acked, no-block, HasVerdict, awaits-exactly, goes-on}
 use Rattle.place.proofs.OwnAlways.{always}
 use Rattle.place.specs.declared.OwnStage.{OwnStage}
@@ -26,7 +25,6 @@ use Rattle.place.specs.declared.OwnStage.the-variants.{Free, Sending, Aw
 takes-exactly :
     (c : Terms) (h : List ℕ) (p : OwnStage) (s : Seen) (b : Header) → At c p h s → Routed c b
     → ownTakes (placeAt h p) b ≡ true ↔ Due (meet (placeAt h p) s) b
-unfolding continuesReply
 takes-exactly c h Free s b g q = (λ t. absurd (false≢true t), λ d. absurd (is-acked _ _ g (d .asked .acked)))
 takes-exactly c h Sending s b g q = (λ t. absurd (false≢true t), λ d. absurd (is-acked _ _ (g .request) (d .asked .acked)))
 takes-exactly c h (Awaiting timer) s b g q =
@@ -34,14 +32,13 @@ takes-exactly c h (Awaiting timer) s b g q =
       λ t. record { asked = g .asked; undecided = refl; fits = inl (g .kept, w .0 t) },
       λ d. ⊎-elim (λ k. w .1 (k .1)) (λ k. absurd (no-block _ (g .kept) (k .some))) (d .fits),
     )
-takes-exactly c h (Replying timer n r) s b g q =
-    let w = goes-on c h s timer n r b g q in
-    let x = continues (replyHeader (headerOf h) r) n b in (
+takes-exactly c h (Replying a) s b g q =
+    let w = goes-on c h s a b g q in (
       λ t.
-          let k = w .0 (x .0 t) in
-          record { asked = g .asked; undecided = refl; fits = inr (record { some = g .begun .some; device = rw (g .header) (k .0); following = k .1 }) },
+          let k = w .0 t in
+          record { asked = g .asked; undecided = refl; fits = inr (record { some = g .arrives .begun .some; device = rw (g .header) (k .0); following = k .1 }) },
       λ d.
-          ⊎-elim (λ k. absurd (no-block _ (k .0) (g .begun .some))) (λ k. x .1 (w .1 (rw (g .header) at (k .device), k .following))) (d .fits),
+          ⊎-elim (λ k. absurd (no-block _ (k .0) (g .arrives .begun .some))) (λ k. w .1 (rw (g .header) at (k .device), k .following)) (d .fits),
     )
 takes-exactly c h (Done v r) s b g q = (λ t. absurd (false≢true t), λ d. absurd (subst HasVerdict (d .undecided) tt))
 
@@ -52,7 +49,7 @@ bytes-kept : (c : Terms) (h : List ℕ) (p : OwnStage) (s : Seen) (b : Header) �
 bytes-kept c h Free s b g d = absurd (is-acked _ _ g (d .asked .acked))
 bytes-kept c h Sending s b g d = absurd (is-acked _ _ (g .request) (d .asked .acked))
 bytes-kept c h (Awaiting timer) s b g d = sym (g .bytes)
-bytes-kept c h (Replying timer n r) s b g d = ap (λ r. r .length) (g .reply)
+bytes-kept c h (Replying a) s b g d = g .arrives .size
 bytes-kept c h (Done v r) s b g d = absurd (subst HasVerdict (d .undecided) tt)
 
 -- each answer is as it should be

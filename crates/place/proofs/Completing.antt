@@ -4,21 +4,21 @@ use Prim.Native.Nat.{_+_, _≤_}
 use mathlib.Core.Path.{_≡_, refl, sym, ap, _∙_}
 use mathlib.Core.Bool.{Bool, true, false, false≢true}
 use mathlib.Core.Logic.{_↔_, ⊎-elim}
-use native.Mathlib.Omega.{arith}
 use lib.ListN.{length}
 use borrow.Author.Tests.{le-leb}
+use Rattle.wire.specs.Message.{messageLimit}
 use Rattle.header.specs.declared.header.Header.{Header}
 use Rattle.settings.specs.declared.terms.Terms.{Terms}
 use Rattle.place.specs.Message.{Continues, Whole, firstOf}
-use Rattle.place.specs.Incoming.{primaryOf, lengthAt, continuesHere, takesAt, incomingOffered, incomingLength}
-use Rattle.place.specs.Range.{timerInRange, lengthInRange, openInRange, incomingStageInRange}
+use Rattle.place.specs.Incoming.{primaryOf, lengthAt, takesAt, incomingOffered, incomingLength}
+use Rattle.place.specs.Range.{lengthInRange, incomingStageInRange}
 use Rattle.place.specs.IncomingHistory.{Event, begin, block, tick, answer, sent, failed, release, nothing, arriving, showsAt, shows, step, Seen, Track}
 use Rattle.place.specs.IncomingTheorems.{isComplete, Breaks, ShowsExactly, CompleteExactly, TakesExactly, MessageShown, spares, StaysComplete, CompleteStays, IncomingReachedInRange}
 use Rattle.place.specs.declared.IncomingStage.{IncomingStage}
 use Rattle.place.specs.declared.IncomingStage.the-variants.{Free, Open, Complete, Replying, Replied}
 use Rattle.place.specs.declared.Incoming.{Incoming}
-use Rattle.place.proofs.Messages.{begun-not-whole, continues}
-use Rattle.place.proofs.IncomingInvariant.{NoneHere, At, always}
+use Rattle.place.proofs.Arrivals.{not-whole, not-broken, arriving-in-range}
+use Rattle.place.proofs.IncomingInvariant.{NoneHere, At, goes-on, always}
 
 -- ---- what a place shows, exactly when
 
@@ -62,12 +62,10 @@ nothing-so c t e n =
 -- each stage shows one of the three
 exactly : (c : Terms) (h : Header) (p : IncomingStage) (s : Seen) → At c p h s → ShowsExactly c (record { incoming = record { header = h; stage = p }; seen = s })
 exactly c h Free s g = nothing-so c _ refl g
-exactly c h (Open timer next n) s g =
-    arriving-so c _ refl (g .0 .begun) (begun-not-whole (s .kept) (g .1 .so-far))
-    (⊎-elim (clash (g .1 .unspoilt)) (λ late. omega (arith, g .1 .counted, g .1 .in-time)))
-exactly c h (Complete n) s g = complete-so c _ refl (g .0 .begun) (g .1)
-exactly c h (Replying n) s g = complete-so c _ refl (g .0 .begun) (g .1)
-exactly c h (Replied n e) s g = complete-so c _ refl (g .0 .begun) (g .1)
+exactly c h (Open a) s g = arriving-so c _ refl (g .begins .begun) (not-whole (g .arrives)) (not-broken (g .arrives))
+exactly c h (Complete n) s g = complete-so c _ refl (g .begins .begun) (g .whole)
+exactly c h (Replying n) s g = complete-so c _ refl (g .begins .begun) (g .whole)
+exactly c h (Replied n e) s g = complete-so c _ refl (g .begins .begun) (g .whole)
 
 pub complete-exactly : CompleteExactly
 complete-exactly c t w = exactly c (t .incoming .header) (t .incoming .stage) (t .seen) (always c t w)
@@ -76,10 +74,8 @@ complete-exactly c t w = exactly c (t .incoming .header) (t .incoming .stage) (t
 
 -- only an open message takes blocks
 taken : (c : Terms) (i : Incoming) (p : IncomingStage) (s : Seen) (h : Header) → At c p (primaryOf i) s → (takesAt p i h ≡ true) ↔ ((showsAt p ≡ arriving) × Continues (firstOf (s .kept)) (length (s .kept) + 1) h)
-unfolding continuesHere
 taken c i Free s h g = (clash refl, λ w. absurd (other (sym (w .0))))
-taken c i (Open timer next n) s h g =
-    rw (← g .0 .first, ← g .1 .number) (let k = continues (primaryOf i) next h in (λ e. (refl, k .0 e), λ w. k .1 (w .1)))
+taken c i (Open a) s h g = let k = goes-on c i s a h g in (λ e. (refl, k .0 e), λ w. k .1 (w .1))
 taken c i (Complete n) s h g = (clash refl, λ w. clash (ap isComplete (w .0)) refl)
 taken c i (Replying n) s h g = (clash refl, λ w. clash (ap isComplete (w .0)) refl)
 taken c i (Replied n e) s h g = (clash refl, λ w. clash (ap isComplete (w .0)) refl)
@@ -92,10 +88,10 @@ takes-exactly c t w h = taken c (t .incoming) (t .incoming .stage) (t .seen) h (
 -- at each stage but the free one
 said : (c : Terms) (p : IncomingStage) (m : Header) (s : Seen) → At c p m s → (showsAt p ≡ nothing → ⊥) → (m ≡ firstOf (s .kept)) × (lengthAt p ≡ s .bytes)
 said c Free m s g n = absurd (n refl)
-said c (Open timer next k) m s g n = (g .0 .first, g .0 .length)
-said c (Complete k) m s g n = (g .0 .first, g .0 .length)
-said c (Replying k) m s g n = (g .0 .first, g .0 .length)
-said c (Replied k e) m s g n = (g .0 .first, g .0 .length)
+said c (Open a) m s g n = (g .begins .first, g .arrives .size)
+said c (Complete k) m s g n = (g .begins .first, g .size)
+said c (Replying k) m s g n = (g .begins .first, g .size)
+said c (Replied k e) m s g n = (g .begins .first, g .size)
 
 pub message-shown : MessageShown
 message-shown c t w = said c (t .incoming .stage) _ (t .seen) (always c t w)
@@ -109,7 +105,7 @@ stays :
     (isComplete (shows (step i e)) ≡ true) × (step i e .header ≡ h) × (incomingLength (step i e) ≡ lengthAt p)
 unfolding incomingOffered
 stays c h Free e x y = absurd (false≢true x)
-stays c h (Open timer next n) e x y = absurd (false≢true x)
+stays c h (Open a) e x y = absurd (false≢true x)
 stays c h (Complete n) (begin h' size q b) x y = (refl, refl, refl)
 stays c h (Complete n) (block b size q) x y = (refl, refl, refl)
 stays c h (Complete n) tick x y = (refl, refl, refl)
@@ -145,7 +141,7 @@ of-stage c h Free =
       freed = λ x. cc;
       freed-later = λ f x. cc;
     }
-of-stage c h (Open timer next n) =
+of-stage c h (Open a) =
     record {
       kept = λ x e y. stays c h _ e x y;
       taken = λ x. cc;
@@ -197,13 +193,12 @@ complete-stays c i = of-stage c (i .header) (i .stage)
 
 -- at each stage
 in-range : (c : Terms) → c .t4 .0 ≤ 1200 → (p : IncomingStage) (m : Header) (s : Seen) → At c p m s → incomingStageInRange p ≡ true
-unfolding openInRange timerInRange lengthInRange
+unfolding lengthInRange
 in-range c short Free m s g = refl
-in-range c short (Open timer next n) m s g =
-    simp (le-leb timer 1200 (omega (arith, g .1 .in-time)), le-leb next 4097 (omega (arith, g .1 .each-some, g .0 .fits)), le-leb n 4096 (g .0 .fits))
-in-range c short (Complete n) m s g = le-leb n 4096 (g .0 .fits)
-in-range c short (Replying n) m s g = le-leb n 4096 (g .0 .fits)
-in-range c short (Replied n e) m s g = le-leb n 4096 (g .0 .fits)
+in-range c short (Open a) m s g = arriving-in-range c a _ (g .arrives) short
+in-range c short (Complete n) m s g = le-leb n messageLimit (g .fits)
+in-range c short (Replying n) m s g = le-leb n messageLimit (g .fits)
+in-range c short (Replied n e) m s g = le-leb n messageLimit (g .fits)
 
 pub incoming-reached-in-range : IncomingReachedInRange
 incoming-reached-in-range c short t w = in-range c short (t .incoming .stage) _ (t .seen) (always c t w)

@@ -5,6 +5,7 @@ use mathlib.Core.List.{List, []}
 use mathlib.Core.Logic.{_⊎_, inl, inr, ⊎-elim}
 use native.Mathlib.Omega.{arith}
 use native.Mathlib.Nat.{mul-le-mul-right}
+use Rattle.wire.specs.Message.{messageLimit}
 use Rattle.settings.specs.declared.terms.Terms.{Terms}
 use Rattle.place.specs.OwnHistory.{acknowledged, Seen}
 use Rattle.place.specs.OwnTheorems.{Decided, VerdictFalls}
@@ -15,7 +16,7 @@ use Rattle.place.specs.declared.OwnStage.the-variants.{Free, Sending, Aw
 
 -- there is time left: less than T3 + 4096 x T4 + 1 ticks have passed, and less than T3 + 1 if no block is kept
 record Early (c : Terms) (s : Seen) : Type 0 where
-  in-all : s .since ≤ c .t3 .0 + 4096 * c .t4 .0
+  in-all : s .since ≤ c .t3 .0 + messageLimit * c .t4 .0
   in-silence : s .kept ≡ [] → s .since ≤ c .t3 .0
 
 -- from the ACK on there is a verdict or time left
@@ -23,10 +24,10 @@ decided : (c : Terms) (p : OwnStage) (h : List ℕ) (s : Seen) → At c p h s �
 decided c Free h s g a = absurd (is-acked _ _ g a)
 decided c Sending h s g a = absurd (is-acked _ _ (g .request) a)
 decided c (Awaiting timer) h s g a = inr (record { in-all = omega (arith, g .since, g .within); in-silence = λ e. omega (arith, g .since, g .within) })
-decided c (Replying timer next r) h s g a =
+decided c (Replying b) h s g a =
     inr (record {
-      in-all = omega (arith, g .late, g .within, mul-le-mul-right (c .t4 .0) (g .room));
-      in-silence = λ e. absurd (no-block (s .kept) e (g .begun .some));
+      in-all = omega (arith, g .late, g .arrives .within, mul-le-mul-right (c .t4 .0) (g .arrives .room));
+      in-silence = λ e. absurd (no-block (s .kept) e (g .arrives .begun .some));
     })
 decided c (Done v r) h s g a = inl (record { verdict = v; shown = refl })
 

@@ -1,7 +1,10 @@
--- `Messages`: the laws of a message and of what becomes of its blocks. `Judging`: a block is judged as 01 says.
+-- `Messages`: the laws of a message and of what becomes of its blocks. `Judging`: a block is judged as 01 says. `Arrivals`: a message that
+-- is arriving, against its onlooker; both invariants rest on it.
 -- `IncomingInvariant`: what holds of an incoming place after any events; from it `Completing` has its theorems.
 pub mod Messages
 pub mod Judging
+pub mod Ranges
+pub mod Arrivals
 pub mod IncomingInvariant
 pub mod Completing
 pub mod OwnInvariant

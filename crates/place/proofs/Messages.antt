@@ -1,5 +1,5 @@
--- The laws of a message (`specs/Message.antt`): its first block, one block more, and what the tests of `specs/Fate.antt` say.
--- Assumes nothing.
+-- The laws of a message (`specs/Message.antt`): its first block, one block more, and what the tests of `specs/Fate.antt` and
+-- `specs/Arriving.antt` say. Assumes nothing.
 use Prim.Native.Nat.{ℕ, zero, suc, _+_, _-_, _%_, _≤_, _<_}
 use mathlib.Core.Path.{_≡_, refl, sym, subst, _∙_}
 use mathlib.Core.Bool.{Bool, true, false, cond, not, _&&_, Bool·beq, false≢true}
@@ -10,12 +10,15 @@ use lib.Dec.{eqb, ltb}
 use lib.ListN.{length, length-append, List·getD-append}
 use lib.Seq.{getD-at}
 use borrow.Author.Tests.{eqb-true, ltb-true, ltb-false, eq-eqb, lt-ltb}
+use Rattle.wire.specs.Message.{messageLimit}
 use Rattle.wire.proofs.Choice.{either, chosen, judged, both, three, either-of, same-bits}
 use Rattle.header.specs.Theorems.{SameElse}
 use Rattle.header.specs.declared.header.Header.{Header}
 use Rattle.settings.specs.declared.terms.Terms.{Terms}
-use Rattle.place.specs.Message.{Routed, StartsMessage, Continues, LacksData, noHeader, blockAt, firstOf, Whole, Begun}
-use Rattle.place.specs.Fate.{startsMessage, beginsReply, beginsPrimary, sameKind, continuesOf, lacksData, tooLong, keptOf, fateOf}
+use Rattle.place.specs.Message.{Routed, StartsMessage, Continuing, Continues, LacksData, noHeader, blockAt, firstOf, Whole, Begun}
+use Rattle.place.specs.Fate.{startsMessage, beginsReply, beginsPrimary, lacksData, tooLong, keptOf, fateOf}
+use Rattle.place.specs.Arriving.{sameKind, continuesArriving}
+use Rattle.place.specs.declared.Arriving.{Arriving}
 use Rattle.place.specs.declared.Fate.{Fate}
 use Rattle.place.specs.declared.Fate.the-variants.{Empty, TooLong, Last, More}
 
@@ -156,25 +159,25 @@ pub number-one : (h : Header) → StartsMessage h → h .e ≡ false → h .numb
 number-one h s more = ⊎-elim (λ one. one) (λ w. absurd (false≢true (sym more ∙ w .1))) s
 
 -- all that a further block has to have
-pub continues : (m : Header) (next : ℕ) (h : Header) → continuesOf m next h ≡ true ↔ Continues m next h
-unfolding continuesOf sameKind
-continues m next h = (
+pub continues : (id sys : ℕ) (a : Arriving) (h : Header) → continuesArriving id sys a h ≡ true ↔ Continuing id sys (a .next) (a .kind) h
+unfolding continuesArriving sameKind
+continues id sys a h = (
   λ t.
-      let w = both (eqb (m .device) (h .device) && eqb (m .system) (h .system) && eqb (h .number) next) _ .0 t in
-      let x = three (eqb (m .device) (h .device)) (eqb (m .system) (h .system)) (eqb (h .number) next) .0 (w .0) in
-      let y = three (eqb (m .stream) (h .stream)) (eqb (m .function) (h .function)) (Bool·beq (m .w) (h .w)) .0 (w .1) in
+      let w = both (eqb id (h .device) && eqb sys (h .system) && eqb (h .number) (a .next)) _ .0 t in
+      let x = three (eqb id (h .device)) (eqb sys (h .system)) (eqb (h .number) (a .next)) .0 (w .0) in
+      let y = three (eqb (a .kind .stream) (h .stream)) (eqb (a .kind .function) (h .function)) (Bool·beq (a .kind .w) (h .w)) .0 (w .1) in
       record {
         device = sym (eqb-true _ _ (x .0));
         system = sym (eqb-true _ _ (x .1));
         number = eqb-true _ _ (x .2);
         stream = sym (eqb-true _ _ (y .0));
         function = sym (eqb-true _ _ (y .1));
-        w = sym (same-bits (m .w) (h .w) .0 (y .2));
+        w = sym (same-bits (a .kind .w) (h .w) .0 (y .2));
       },
   λ k.
-      both (eqb (m .device) (h .device) && eqb (m .system) (h .system) && eqb (h .number) next) _ .1 (
+      both (eqb id (h .device) && eqb sys (h .system) && eqb (h .number) (a .next)) _ .1 (
         three _ _ _ .1 (eq-eqb _ _ (sym (k .device)), eq-eqb _ _ (sym (k .system)), eq-eqb _ _ (k .number)),
-        three _ _ _ .1 (eq-eqb _ _ (sym (k .stream)), eq-eqb _ _ (sym (k .function)), same-bits (m .w) (h .w) .1 (sym (k .w))),
+        three _ _ _ .1 (eq-eqb _ _ (sym (k .stream)), eq-eqb _ _ (sym (k .function)), same-bits (a .kind .w) (h .w) .1 (sym (k .w))),
       ),
 )
 
@@ -214,9 +217,9 @@ some-data h (suc size) n e = omega arith
 pub by-fate :
     (h : Header) (have size : ℕ) (P : Fate → Type 0)
     → (LacksData h size → P Empty)
-    → ((LacksData h size → ⊥) → 4096 < have + size → P TooLong)
-    → ((LacksData h size → ⊥) → h .e ≡ true → have + size ≤ 4096 → P (Last (have + size)))
-    → ((LacksData h size → ⊥) → h .e ≡ false → have + size ≤ 4096 → 1 ≤ size → P (More (have + size)))
+    → ((LacksData h size → ⊥) → messageLimit < have + size → P TooLong)
+    → ((LacksData h size → ⊥) → h .e ≡ true → have + size ≤ messageLimit → P (Last (have + size)))
+    → ((LacksData h size → ⊥) → h .e ≡ false → have + size ≤ messageLimit → 1 ≤ size → P (More (have + size)))
     → P (fateOf h have size)
 unfolding fateOf tooLong
 by-fate h have size P empty long last more =

@@ -1,14 +1,15 @@
 -- What holds of an own place and its onlooker after any events at a fresh place, and what one event more leaves. Assumes nothing.
 use Prim.Native.Nat.{ℕ, _+_, _*_, _≤_}
-use mathlib.Core.Path.{_≡_, refl, sym, ap, subst, _∙_}
+use mathlib.Core.Path.{_≡_, refl, sym, subst, _∙_}
 use mathlib.Core.Bool.{Bool, true, false, cond, false≢true}
-use mathlib.Core.List.{List, [], _∷_, _++_}
+use mathlib.Core.List.{List, []}
 use mathlib.Core.Logic.{_↔_, inl, inr, ⊎-elim}
 use native.Mathlib.Omega.{arith}
 use native.Mathlib.Nat.{mul-le-mul-right}
 use lib.Dec.{eqb}
 use lib.ListN.{length}
 use borrow.Author.Tests.{eqb-true, eqb-false, eq-eqb}
+use Rattle.wire.specs.Message.{messageLimit}
 use Rattle.wire.proofs.Choice.{either, chosen, both}
 use Rattle.header.specs.Header.{headerOf}
 use Rattle.header.specs.Theorems.{SameElse}
@@ -16,18 +17,20 @@ use Rattle.header.specs.declared.header.Header.{Header}
 use Rattle.settings.proofs.Timers.{by-timer}
 use Rattle.settings.specs.declared.terms.Terms.{Terms}
 use Rattle.place.specs.Fate.{beginsReply, fateOf}
-use Rattle.place.specs.Message.{Routed, Continues, firstOf, Whole, Begun}
-use Rattle.place.specs.Own.{primaryOf, noReply, replyOf, replyHeader, ended, ownKept, acknowledged, awaitedBy, awaitTick, replyingBy, replyTick, awaits, continuesReply, ownTakes, verdictOf, follows, repliedBy, replied, ownOffered}
+use Rattle.place.specs.Message.{Routed, Continues, firstOf}
+use Rattle.place.specs.Own.{primaryOf, noReply, ended, ownKept, acknowledged, awaitedBy, awaitTick, replyingBy, replyTick, awaits, continuesReply, ownTakes, verdictOf, follows, repliedBy, replied, ownOffered}
 use Rattle.place.specs.OwnHistory.{Event, claim, sent, failed, tick, release, block, passed, answerBy, answerTo, Request, none, underway, lost, Seen, asked, acked, gaveUp, answered, Track, next}
 use Rattle.place.specs.OwnHistory as onlooker
 use Rattle.place.specs.OwnTheorems.{Asked, Complete, Earned, BeginsReply}
-use Rattle.place.proofs.Messages.{one-longer, first-more, begun-first, whole-first, begun-more, whole-more, none-not-whole, begun-not-whole, number-first, number-one, continues, same-else, by-fate}
+use Rattle.place.proofs.Arrivals as core
+use Rattle.place.proofs.Arrivals.{Arrived, Arrives}
 use Rattle.place.proofs.Judging.{reply-exactly}
 use Rattle.place.specs.declared.Verdict.{Verdict}
 use Rattle.place.specs.declared.Verdict.the-variants.{Sent, Answered, Declined, Other, Broken, NoReply, SendFailed}
 use Rattle.place.specs.declared.Standing.{Standing}
 use Rattle.place.specs.declared.Standing.the-variants as standing
 use Rattle.place.specs.declared.Reply.{Reply}
+use Rattle.place.specs.declared.Arriving.{Arriving}
 use Rattle.place.specs.declared.OwnStage.{OwnStage}
 use Rattle.place.specs.declared.OwnStage.the-variants.{Free, Sending, Awaiting, Replying, Done}
 use Rattle.place.specs.declared.Own.{Own}
@@ -49,22 +52,17 @@ pub record Waits (c : Terms) (h : List ℕ) (s : Seen) (timer : ℕ) : Type 0 wh
   pub since : s .since ≡ timer
   pub within : timer ≤ c .t3 .0
 
--- a reply has begun: its first block passed rule 1 and has the request's system bytes; what the place knows of it is what that
--- block says, and the bytes kept
-pub record Arrives (c : Terms) (h : List ℕ) (s : Seen) (timer next : ℕ) (r : Reply) : Type 0 where
+-- what has come of the reply
+abbrev arrivedOf : Seen → Arrived
+arrivedOf s = record { kept = s .kept; bytes = s .bytes; spoilt = s .spoilt; quiet = s .quiet }
+
+-- a reply arrives, with the request's system bytes, and each of its bytes has left time for one T4 more
+pub record Replies (c : Terms) (h : List ℕ) (s : Seen) (a : Arriving) : Type 0 where
   pub asked : Asked s
   pub header : s .header ≡ headerOf h
-  pub begun : Begun (s .kept)
-  pub number : next ≡ length (s .kept) + 1
-  pub routed : Routed c (firstOf (s .kept))
   pub system : firstOf (s .kept) .system ≡ headerOf h .system
-  pub reply : r ≡ replyOf (firstOf (s .kept)) (s .bytes)
-  pub unspoilt : s .spoilt ≡ false
-  pub full : length (s .kept) ≤ s .bytes
-  pub room : s .bytes ≤ 4096
-  pub quiet : s .quiet ≡ timer
-  pub within : timer ≤ c .t4 .0
-  pub late : s .since + c .t4 .0 ≤ c .t3 .0 + s .bytes * c .t4 .0 + timer
+  pub arrives : Arrives c a (arrivedOf s)
+  pub late : s .since + c .t4 .0 ≤ c .t3 .0 + s .bytes * c .t4 .0 + a .timer
 
 -- the verdicts on a whole reply
 abbrev pub onReply : Verdict → Bool
@@ -79,7 +77,7 @@ onReply SendFailed = false
 -- the verdict is earned
 pub record Ended (c : Terms) (s : Seen) (v : Verdict) (r : Reply) : Type 0 where
   pub earned : Earned c s v
-  pub room : r .length ≤ 4096
+  pub room : r .length ≤ messageLimit
   pub counted : onReply v ≡ true → r .length ≡ s .bytes
 
 -- at each stage, of the place with header bytes h and of what the onlooker has seen
@@ -87,7 +85,7 @@ abbrev pub At : Terms → OwnStage → List ℕ → Seen → Type 0
 At c Free h s = s .request ≡ none
 At c Sending h s = Leaves h s
 At c (Awaiting timer) h s = Waits c h s timer
-At c (Replying timer next r) h s = Arrives c h s timer next r
+At c (Replying a) h s = Replies c h s a
 At c (Done v r) h s = Ended c s v r
 
 abbrev pub Good : Terms → Track → Type 0
@@ -129,19 +127,12 @@ no-block bs e some = omega (arith, rw e at some)
 
 -- ---- a block of the reply
 
--- block b goes on with the blocks kept, and the message stays in its bounds
+-- block b is the first of the reply, or the next one, and comes in time
 record Joins (c : Terms) (h : List ℕ) (s : Seen) (b : Header) : Type 0 where
   asked : Asked s
   header : s .header ≡ headerOf h
-  unspoilt : s .spoilt ≡ false
-  not-yet : Whole (s .kept) → ⊥
-  routed : Routed c b
   system : b .system ≡ headerOf h .system
-  same : SameElse b (firstOf (s .kept ++ (b ∷ [])))
-  last : b .e ≡ true → Whole (s .kept ++ (b ∷ []))
-  more : b .e ≡ false → Begun (s .kept ++ (b ∷ []))
-  number : b .e ≡ false → b .number ≡ length (s .kept) + 1
-  full : length (s .kept) ≤ s .bytes
+  joins : core.Joins c (arrivedOf s) b
   late : s .since ≤ c .t3 .0 + s .bytes * c .t4 .0
 
 -- the verdict on a whole reply is the one earned: b is its last block
@@ -161,48 +152,35 @@ verdict-earned c o s b h same w =
     (λ k. (w, λ a. eqb-false _ _ j (rw h at (same .function ∙ a .function)), λ d. eqb-false _ _ k (same .function ∙ d .function)))))
     (λ i. (w, λ a. eqb-false _ _ i (rw h at (same .stream ∙ a .stream)), λ d. eqb-false _ _ i (rw h at (same .stream ∙ d .stream))))
 
--- two blocks of one message say the same of it
-same-reply : (a b : Header) (n : ℕ) → SameElse a b → replyOf a n ≡ replyOf b n
-same-reply a b n e = rw (e .w, e .stream, e .function)
-
 -- what becomes of it, whatever its fate
 met :
     (c : Terms) (o : Own) (s : Seen) (b : Header) (size : ℕ) → Joins c (o .header) s b → ownKept o .length ≡ s .bytes
     → Good c (meet (replied o b size) (answered (answerBy (fateOf b (ownKept o .length) size)) s b size))
 unfolding replied ended
 met c o s b size j e =
+    let a : Asked (answered onlooker.kept s b size) = record { acked = j .asked .acked; wanted = j .asked .wanted } in
     let broken : Ended c (answered onlooker.spoilt s b size) Broken noReply =
     record {
-      earned = (record { acked = j .asked .acked; wanted = j .asked .wanted }, j .not-yet, inl refl);
+      earned = (record { acked = j .asked .acked; wanted = j .asked .wanted }, j .joins .not-yet, inl refl);
       room = omega arith;
       counted = never;
     } in
     rw e
-    (by-fate b (s .bytes) size (λ f. Good c (meet (repliedBy o b f) (answered (answerBy f) s b size)))
-    (λ lacks. broken)
-    (λ has long. broken)
-    (λ has last fits.
+    (core.by-join c (arrivedOf s) b size (j .joins) (λ f. Good c (meet (repliedBy o b f) (answered (answerBy f) s b size)))
+    broken
+    broken
+    (λ whole fits.
     record {
-      earned =
-          verdict-earned c o (answered onlooker.kept s b size) b (j .header) (j .same)
-          (record { asked = record { acked = j .asked .acked; wanted = j .asked .wanted }; whole = j .last last });
+      earned = verdict-earned c o (answered onlooker.kept s b size) b (j .header) (j .joins .same) (record { asked = a; whole = whole });
       room = fits;
       counted = λ z. refl;
     })
-    (λ has more fits some.
+    (λ arrives some.
     record {
-      asked = record { acked = j .asked .acked; wanted = j .asked .wanted };
+      asked = a;
       header = j .header;
-      begun = j .more more;
-      number = omega (arith, j .number more, one-longer (s .kept) b);
-      routed = record { r = sym (j .same .r) ∙ j .routed .r; device = sym (j .same .device) ∙ j .routed .device };
-      system = sym (j .same .system) ∙ j .system;
-      reply = same-reply _ _ (s .bytes + size) (j .same);
-      unspoilt = j .unspoilt;
-      full = omega (arith, j .full, one-longer (s .kept) b);
-      room = fits;
-      quiet = refl;
-      within = omega arith;
+      system = sym (j .joins .same .system) ∙ j .system;
+      arrives = arrives;
       late = omega (arith, j .late, mul-le-mul-right (c .t4 .0) some);
     }))
 
@@ -237,69 +215,53 @@ first-joins c h s timer b g q t =
     record {
       asked = g .asked;
       header = g .header;
-      unspoilt = g .unspoilt;
-      not-yet = rw (g .kept) none-not-whole;
-      routed = q;
       system = rw (g .header) at (k .system);
-      same = rw (g .kept) (record { r = refl; device = refl; w = refl; stream = refl; function = refl; system = refl });
-      last = rw (g .kept) (whole-first b (number-first b (k .first)));
-      more = rw (g .kept) (λ e. begun-first b (number-one b (k .first) e) e);
-      number = rw (g .kept) (number-one b (k .first));
-      full = rw (g .kept) (omega arith);
+      joins = core.first-joins c (arrivedOf s) b (g .kept) (g .unspoilt) q (k .first);
       late = omega (arith, g .since, g .within);
     }
 
--- a block goes on with what the place knows of a reply exactly if it goes on with the blocks kept, and has the request's device
+-- a block continues the reply exactly if it continues the blocks kept, and has the request's device
 pub goes-on :
-    (c : Terms) (h : List ℕ) (s : Seen) (timer n : ℕ) (r : Reply) (b : Header) → Arrives c h s timer n r → Routed c b
-    → Continues (replyHeader (headerOf h) r) n b ↔ ((b .device ≡ headerOf h .device) × Continues (firstOf (s .kept)) (length (s .kept) + 1) b)
-goes-on c h s timer n r b g q =
-    let w = ap (λ r. r .w) (g .reply) in
-    let stream = ap (λ r. r .stream) (g .reply) in
-    let function = ap (λ r. r .function) (g .reply) in (
-      λ k. (
-        k .device,
-        record {
-          device = q .device ∙ sym (g .routed .device);
-          system = k .system ∙ sym (g .system);
-          w = k .w ∙ w;
-          stream = k .stream ∙ stream;
-          function = k .function ∙ function;
-          number = k .number ∙ g .number;
-        },
-      ),
+    (c : Terms) (h : List ℕ) (s : Seen) (a : Arriving) (b : Header) → Replies c h s a → Routed c b
+    → continuesReply (placeAt h (Replying a)) a b ≡ true ↔ ((b .device ≡ headerOf h .device) × Continues (firstOf (s .kept)) (length (s .kept) + 1) b)
+unfolding continuesReply
+goes-on c h s a b g q =
+    let w = core.continues-kept c a (arrivedOf s) (headerOf h .device) (headerOf h .system) b (g .arrives) in (
+      λ t.
+          let k = w .0 t in (
+            k .device,
+            record {
+              device = q .device ∙ sym (g .arrives .routed .device);
+              system = k .system ∙ sym (g .system);
+              w = k .w;
+              stream = k .stream;
+              function = k .function;
+              number = k .number;
+            },
+          ),
       λ k.
-          record {
+          w .1 (record {
             device = k .0;
             system = k .1 .system ∙ g .system;
-            w = k .1 .w ∙ sym w;
-            stream = k .1 .stream ∙ sym stream;
-            function = k .1 .function ∙ sym function;
-            number = k .1 .number ∙ sym (g .number);
-          },
+            w = k .1 .w;
+            stream = k .1 .stream;
+            function = k .1 .function;
+            number = k .1 .number;
+          }),
     )
 
 -- the next block of a reply that has begun
 next-joins :
-    (c : Terms) (h : List ℕ) (s : Seen) (timer n : ℕ) (r : Reply) (b : Header) → Arrives c h s timer n r → Routed c b
-    → continuesReply (placeAt h (Replying timer n r)) n r b ≡ true → Joins c h s b
-unfolding continuesReply
-next-joins c h s timer n r b g q t =
-    let k = goes-on c h s timer n r b g q .0 (continues (replyHeader (headerOf h) r) n b .0 t) .1 in
-    let same : SameElse b (firstOf (s .kept)) = same-else c _ _ b (g .routed) q k in
+    (c : Terms) (h : List ℕ) (s : Seen) (a : Arriving) (b : Header) → Replies c h s a → Routed c b
+    → continuesReply (placeAt h (Replying a)) a b ≡ true → Joins c h s b
+next-joins c h s a b g q t =
+    let k = goes-on c h s a b g q .0 t .1 in
     record {
       asked = g .asked;
       header = g .header;
-      unspoilt = g .unspoilt;
-      not-yet = begun-not-whole (s .kept) (g .begun);
-      routed = q;
       system = k .system ∙ g .system;
-      same = rw (first-more (s .kept) b (g .begun .some)) same;
-      last = λ e. whole-more (s .kept) b (g .begun) (k .number) e same;
-      more = λ e. begun-more (s .kept) b (g .begun) (k .number) e same;
-      number = λ e. k .number;
-      full = g .full;
-      late = omega (arith, g .late, g .within);
+      joins = core.next-joins c a (arrivedOf s) b (g .arrives) q k;
+      late = omega (arith, g .late, g .arrives .within);
     }
 
 -- ---- a verdict that is earned stays earned
@@ -421,39 +383,19 @@ awaiting-step c h timer s tick g =
 awaiting-step c h timer s release g = g
 awaiting-step c h timer s (block b size q) g = offered c (placeAt h (Awaiting timer)) s b size g (sym (g .bytes)) (λ t. first-joins c h s timer b g q t)
 
-replying-step :
-    (c : Terms) (h : List ℕ) (timer n : ℕ) (r : Reply) (s : Seen) (e : Event c) → Arrives c h s timer n r → After c h (Replying timer n r) s e
+replying-step : (c : Terms) (h : List ℕ) (a : Arriving) (s : Seen) (e : Event c) → Replies c h s a → After c h (Replying a) s e
 unfolding replyTick ended
-replying-step c h timer n r s (claim x) g = rw (asked-over (s .request) s (headerOf x) (over-asked s (g .asked))) g
-replying-step c h timer n r s sent g = rw (acked-over (s .request) s (over-asked s (g .asked))) g
-replying-step c h timer n r s failed g = rw (gave-up-over (s .request) s (over-asked s (g .asked))) g
-replying-step c h timer n r s tick g =
-    let a = asked-later s (g .asked) in
-    by-timer _ timer (λ t. Good c (meet (replyingBy (placeAt h (Replying timer n r)) n r t) (later s)))
-    (λ out.
-    record {
-      earned = (a, begun-not-whole (s .kept) (g .begun), inr (g .begun .some, omega (arith, g .quiet)));
-      room = omega arith;
-      counted = never;
-    })
-    (λ on. record {
-      asked = a;
-      header = g .header;
-      begun = g .begun;
-      number = g .number;
-      routed = g .routed;
-      system = g .system;
-      reply = g .reply;
-      unspoilt = g .unspoilt;
-      full = g .full;
-      room = g .room;
-      quiet = omega (arith, g .quiet);
-      within = omega arith;
-      late = omega (arith, g .late);
-    })
-replying-step c h timer n r s release g = g
-replying-step c h timer n r s (block b size q) g =
-    offered c (placeAt h (Replying timer n r)) s b size g (ap (λ r. r .length) (g .reply)) (λ t. next-joins c h s timer n r b g q t)
+replying-step c h a s (claim x) g = rw (asked-over (s .request) s (headerOf x) (over-asked s (g .asked))) g
+replying-step c h a s sent g = rw (acked-over (s .request) s (over-asked s (g .asked))) g
+replying-step c h a s failed g = rw (gave-up-over (s .request) s (over-asked s (g .asked))) g
+replying-step c h a s tick g =
+    let w = asked-later s (g .asked) in
+    core.by-tick c a (arrivedOf s) (g .arrives) (λ t. Good c (meet (replyingBy (placeAt h (Replying a)) t) (later s)))
+    (λ out. record { earned = (w, core.not-whole (g .arrives), inr (g .arrives .begun .some, out)); room = omega arith; counted = never })
+    (λ on. record { asked = w; header = g .header; system = g .system; arrives = on; late = omega (arith, g .late) })
+replying-step c h a s release g = g
+replying-step c h a s (block b size q) g =
+    offered c (placeAt h (Replying a)) s b size g (g .arrives .size) (λ t. next-joins c h s a b g q t)
 
 done-step : (c : Terms) (h : List ℕ) (v : Verdict) (r : Reply) (s : Seen) (e : Event c) → Ended c s v r → After c h (Done v r) s e
 unfolding ownOffered answerTo
@@ -469,5 +411,5 @@ pub step : (c : Terms) (h : List ℕ) (p : OwnStage) (s : Seen) (e : Event c) �
 step c h Free s e g = free-step c h s e g
 step c h Sending s e g = sending-step c h s e g
 step c h (Awaiting timer) s e g = awaiting-step c h timer s e g
-step c h (Replying timer n r) s e g = replying-step c h timer n r s e g
+step c h (Replying a) s e g = replying-step c h a s e g
 step c h (Done v r) s e g = done-step c h v r s e g

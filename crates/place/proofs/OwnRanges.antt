@@ -6,9 +6,10 @@ use mathlib.Core.List.{List}
 use native.Mathlib.Omega.{arith}
 use borrow.Author.Tests.{le-leb}
 use Rattle.settings.specs.declared.terms.Terms.{Terms}
-use Rattle.place.specs.Range.{timerInRange, lengthInRange, openInRange, ownStageInRange}
+use Rattle.place.specs.Range.{timerInRange, lengthInRange, ownStageInRange}
 use Rattle.place.specs.OwnHistory.{Seen}
 use Rattle.place.specs.OwnTheorems.{OwnReachedInRange}
+use Rattle.place.proofs.Arrivals.{arriving-in-range}
 use Rattle.place.proofs.OwnInvariant.{At}
 use Rattle.place.proofs.OwnAlways.{always}
 use Rattle.place.specs.declared.OwnStage.{OwnStage}
@@ -17,13 +18,11 @@ use Rattle.place.specs.declared.OwnStage.the-variants.{Free, Sending, Aw
 -- at each stage
 within :
     (c : Terms) → c .t3 .0 ≤ 1200 → c .t4 .0 ≤ 1200 → (p : OwnStage) (h : List ℕ) (s : Seen) → At c p h s → ownStageInRange p ≡ true
-unfolding timerInRange lengthInRange openInRange
+unfolding timerInRange lengthInRange
 within c t3 t4 Free h s g = refl
 within c t3 t4 Sending h s g = refl
 within c t3 t4 (Awaiting timer) h s g = le-leb timer 1200 (omega (arith, g .within))
-within c t3 t4 (Replying timer next r) h s g =
-    let length : r .length ≤ 4096 = rw (g .reply) (g .room) in
-    simp (le-leb timer 1200 (omega (arith, g .within)), le-leb next 4097 (omega (arith, g .number, g .full, g .room)), le-leb _ _ length)
+within c t3 t4 (Replying a) h s g = arriving-in-range c a _ (g .arrives) t4
 within c t3 t4 (Done v r) h s g = le-leb _ _ (g .room)
 
 pub own-reached-in-range : OwnReachedInRange

@@ -15,7 +15,8 @@ use Rattle.place.specs.Message.{firstOf, Whole}
 use Rattle.place.specs.Own.{standingAt, keptAt, ownOffered}
 use Rattle.place.specs.OwnHistory.{Event, claim, sent, failed, tick, release, block, Request, none, underway, acknowledged, lost, Seen, step, run}
 use Rattle.place.specs.OwnTheorems.{Answers, Declines, Asked, Complete, Breaks, Earned, VerdictExactly, FreeExactly, LengthShown, OneVerdict, spares, Spared, no-more, one-more}
-use Rattle.place.proofs.Messages.{none-not-whole, begun-not-whole}
+use Rattle.place.proofs.Messages.{none-not-whole}
+use Rattle.place.proofs.Arrivals as core
 use Rattle.place.proofs.OwnInvariant.{At, onReply, placeAt, is-acked, HasVerdict}
 use Rattle.place.proofs.OwnAlways.{always}
 use Rattle.place.specs.declared.Verdict.{Verdict}
@@ -40,7 +41,7 @@ means : (c : Terms) (p : OwnStage) (h : List ℕ) (s : Seen) → At c p h s → 
 means c Free h s g = g
 means c Sending h s g = tt
 means c (Awaiting timer) h s g = tt
-means c (Replying timer next r) h s g = tt
+means c (Replying a) h s g = tt
 means c (Done v r) h s g = g .earned
 
 -- ---- what is so, the place shows
@@ -50,7 +51,7 @@ abbrev wholeAt : OwnStage → Bool
 wholeAt Free = false
 wholeAt Sending = false
 wholeAt (Awaiting timer) = false
-wholeAt (Replying timer next r) = false
+wholeAt (Replying a) = false
 wholeAt (Done v r) = onReply v
 
 -- a reply that was asked for is whole exactly if t
@@ -83,7 +84,7 @@ tells : (c : Terms) (p : OwnStage) (h : List ℕ) (s : Seen) → At c p h s → 
 tells c Free h s g a = absurd (is-acked _ _ g (a .acked))
 tells c Sending h s g a = absurd (is-acked _ _ (g .request) (a .acked))
 tells c (Awaiting timer) h s g a = not-whole s (rw (g .kept) none-not-whole)
-tells c (Replying timer next r) h s g a = not-whole s (begun-not-whole (s .kept) (g .begun))
+tells c (Replying b) h s g a = not-whole s (core.not-whole (g .arrives))
 tells c (Done v r) h s g a = tells-earned c s v (g .earned) a
 
 -- What should be shown, from the history alone. A whole reply decides by its header:
@@ -160,13 +161,13 @@ stage-shown c Free h s g = simp g
 stage-shown c Sending h s g = simp (g .request)
 stage-shown c (Awaiting timer) h s g =
     simp (g .asked .acked, g .asked .wanted, g .unspoilt, g .kept, le-ltb (c .t3 .0) (s .since) (omega (arith, g .since, g .within)))
-stage-shown c (Replying timer next r) h s g =
+stage-shown c (Replying a) h s g =
     simp (
       g .asked .acked,
       g .asked .wanted,
-      g .unspoilt,
-      ne-eqb (length (s .kept)) 0 (omega (arith, g .begun .some)),
-      le-ltb (c .t4 .0) (s .quiet) (omega (arith, g .quiet, g .within)),
+      g .arrives .unspoilt,
+      ne-eqb (length (s .kept)) 0 (omega (arith, g .arrives .begun .some)),
+      le-ltb (c .t4 .0) (s .quiet) (omega (arith, g .arrives .quiet, g .arrives .within)),
     )
 stage-shown c (Done v r) h s g = earned-shown c s (onReply v) (tells-earned c s v (g .earned)) v (g .earned)
 
@@ -195,7 +196,7 @@ counted : (c : Terms) (p : OwnStage) (h : List ℕ) (s : Seen) → At c p h s �
 counted c Free h s g w = absurd (false≢true w)
 counted c Sending h s g w = absurd (false≢true w)
 counted c (Awaiting timer) h s g w = absurd (false≢true w)
-counted c (Replying timer next r) h s g w = absurd (false≢true w)
+counted c (Replying a) h s g w = absurd (false≢true w)
 counted c (Done v r) h s g w = g .counted w
 
 pub length-shown : LengthShown
@@ -226,7 +227,7 @@ runs : (c : Terms) (h : List ℕ) (p : OwnStage) → HasVerdict (standingAt p) �
 runs c h Free g es k = absurd g
 runs c h Sending g es k = absurd g
 runs c h (Awaiting timer) g es k = absurd g
-runs c h (Replying timer next r) g es k = absurd g
+runs c h (Replying a) g es k = absurd g
 runs c h (Done v r) g es k = done-runs c h v r es k
 
 pub one-verdict : OneVerdict

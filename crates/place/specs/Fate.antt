@@ -1,8 +1,9 @@
 -- What becomes of a block of a message (01, "A block that goes up is judged in this order"): rules 3, 4, 5 and 7 as far as they
 -- are the same for a reply to us and for a message of the far end.
 use Prim.Native.Nat.{ℕ, _+_, _%_}
-use mathlib.Core.Bool.{Bool, cond, not, _&&_, _||_, Bool·beq}
+use mathlib.Core.Bool.{Bool, cond, not, _&&_, _||_}
 use lib.Dec.{eqb, ltb}
+use Rattle.wire.specs.Message.{messageLimit}
 use Rattle.header.specs.declared.header.Header.{Header}
 use Rattle.place.specs.declared.Fate.{Fate}
 use Rattle.place.specs.declared.Fate.the-variants.{Empty, TooLong, Last, More}
@@ -19,25 +20,9 @@ beginsReply h = eqb (h .function % 2) 0 && startsMessage h
 unfoldable pub beginsPrimary : Header → Bool
 beginsPrimary h = eqb (h .function % 2) 1 && startsMessage h
 
-abbrev pub sameBit : Bool → Bool → Bool
-sameBit a b = Bool·beq a b
-
-unfoldable pub sameKind : Header → Header → Bool
-sameKind a b = eqb (a .stream) (b .stream) && eqb (a .function) (b .function) && sameBit (a .w) (b .w)
-
--- "Continues an open message (device ID, system bytes, W, stream, function and next number)"; h is the header that the open
--- message has at any block
-unfoldable pub continuesOf : Header → ℕ → Header → Bool
-continuesOf h next b =
-    eqb (h .device) (b .device) && eqb (h .system) (b .system) && eqb (b .number) next && sameKind h b
-
 -- 4: "E = 0, or number above 1, with no data"
 unfoldable pub lacksData : Header → ℕ → Bool
 lacksData h size = eqb size 0 && (not (h .e) || ltb 1 (h .number))
-
--- the most data bytes of a message
-abbrev pub messageLimit : ℕ
-messageLimit = 4096
 
 -- 5: "Total data above 4,096"
 unfoldable pub tooLong : ℕ → ℕ → Bool

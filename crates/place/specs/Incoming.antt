@@ -1,15 +1,16 @@
 -- The life of a place of a message of the far end (E4 7.4; 01, "Messages").
-use Prim.Native.Nat.{ℕ, _+_}
+use Prim.Native.Nat.{ℕ}
 use mathlib.Core.Bool.{Bool, true, false, cond}
 use Rattle.header.specs.declared.header.Header.{Header}
-use Rattle.settings.specs.Timer.{ticked}
 use Rattle.settings.specs.declared.terms.Terms.{Terms}
-use Rattle.settings.specs.declared.timer.Timer.{Timer}
-use Rattle.settings.specs.declared.timer.Timer.the-variants.{RunsOut, Runs}
 use Rattle.place.specs.Message.{noHeader}
-use Rattle.place.specs.Fate.{continuesOf, fateOf}
+use Rattle.place.specs.Fate.{fateOf}
+use Rattle.place.specs.Arriving.{arrivingFrom, arrivingTick, continuesArriving}
 use Rattle.place.specs.declared.Fate.{Fate}
 use Rattle.place.specs.declared.Fate.the-variants.{Empty, TooLong, Last, More}
+use Rattle.place.specs.declared.Arriving.{Arriving}
+use Rattle.place.specs.declared.Waited.{Waited}
+use Rattle.place.specs.declared.Waited.the-variants as waited
 use Rattle.place.specs.declared.End.{End}
 use Rattle.place.specs.declared.End.the-variants as end
 use Rattle.place.specs.declared.IncomingStage.{IncomingStage}
@@ -29,7 +30,7 @@ primaryOf i = i .header
 -- how many data bytes are kept
 abbrev pub lengthAt : IncomingStage → ℕ
 lengthAt Free = 0
-lengthAt (Open timer next n) = n
+lengthAt (Open a) = a .length
 lengthAt (Complete n) = n
 lengthAt (Replying n) = n
 lengthAt (Replied n e) = n
@@ -39,7 +40,7 @@ incomingLength i = lengthAt (i .stage)
 
 abbrev pub freeAt : IncomingStage → Bool
 freeAt Free = true
-freeAt (Open timer next n) = false
+freeAt (Open a) = false
 freeAt (Complete n) = false
 freeAt (Replying n) = false
 freeAt (Replied n e) = false
@@ -50,7 +51,7 @@ incomingIsFree i = freeAt (i .stage)
 -- "open (not yet complete)"
 abbrev pub openAt : IncomingStage → Bool
 openAt Free = false
-openAt (Open timer next n) = true
+openAt (Open a) = true
 openAt (Complete n) = false
 openAt (Replying n) = false
 openAt (Replied n e) = false
@@ -61,7 +62,7 @@ incomingIsOpen i = openAt (i .stage)
 -- complete, and no reply to it was accepted
 abbrev pub completeAt : IncomingStage → Bool
 completeAt Free = false
-completeAt (Open timer next n) = false
+completeAt (Open a) = false
 completeAt (Complete n) = true
 completeAt (Replying n) = false
 completeAt (Replied n e) = false
@@ -72,7 +73,7 @@ incomingIsComplete i = completeAt (i .stage)
 -- our reply to it has ended
 abbrev pub repliedAt : IncomingStage → Bool
 repliedAt Free = false
-repliedAt (Open timer next n) = false
+repliedAt (Open a) = false
 repliedAt (Complete n) = false
 repliedAt (Replying n) = false
 repliedAt (Replied n e) = true
@@ -83,19 +84,19 @@ incomingIsReplied i = repliedAt (i .stage)
 -- ---- a primary begins
 
 -- "A primary not yet open takes no place."
-abbrev pub begunBy : Incoming → Header → ℕ → Fate → Incoming
-begunBy i h number Empty = i
-begunBy i h number TooLong = i
-begunBy i h number (Last n) = record { header = h; stage = Complete n }
-begunBy i h number (More n) = record { header = h; stage = Open 0 (number + 1) n }
+abbrev pub begunBy : Incoming → Header → Fate → Incoming
+begunBy i h Empty = i
+begunBy i h TooLong = i
+begunBy i h (Last n) = record { header = h; stage = Complete n }
+begunBy i h (More n) = record { header = h; stage = Open (arrivingFrom h n) }
 
 unfoldable pub begins : Incoming → Header → ℕ → Incoming
-begins i h size = begunBy i h (h .number) (fateOf h 0 size)
+begins i h size = begunBy i h (fateOf h 0 size)
 
 -- in a free place, or instead of an open message: "throws that one out and takes its place"
 abbrev pub begunAt : IncomingStage → Incoming → Header → ℕ → Incoming
 begunAt Free i h size = begins i h size
-begunAt (Open timer next n) i h size = begins i h size
+begunAt (Open a) i h size = begins i h size
 begunAt (Complete n) i h size = i
 begunAt (Replying n) i h size = i
 begunAt (Replied n e) i h size = i
@@ -106,16 +107,16 @@ incomingBegun i h size = begunAt (i .stage) i h size
 -- ---- time
 
 -- "T4 beyond its limit breaks the message. A broken incoming message frees its place."
-abbrev pub openBy : Incoming → ℕ → ℕ → Timer → Incoming
-openBy i next n RunsOut = stageAt i Free
-openBy i next n (Runs timer) = stageAt i (Open timer next n)
+abbrev pub openBy : Incoming → Waited → Incoming
+openBy i waited.Broken = stageAt i Free
+openBy i (waited.Still a) = stageAt i (Open a)
 
-unfoldable pub openTick : Terms → Incoming → ℕ → ℕ → ℕ → Incoming
-openTick c i timer next n = openBy i next n (ticked (c .t4) timer)
+unfoldable pub openTick : Terms → Incoming → Arriving → Incoming
+openTick c i a = openBy i (arrivingTick c a)
 
 abbrev pub tickAt : Terms → IncomingStage → Incoming → Incoming
 tickAt c Free i = i
-tickAt c (Open timer next n) i = openTick c i timer next n
+tickAt c (Open a) i = openTick c i a
 tickAt c (Complete n) i = i
 tickAt c (Replying n) i = i
 tickAt c (Replied n e) i = i
@@ -125,13 +126,13 @@ incomingTick c i = tickAt c (i .stage) i
 
 -- ---- its further blocks
 
--- "Continues an open message"
-unfoldable pub continuesHere : Incoming → ℕ → Header → Bool
-continuesHere i next h = continuesOf (primaryOf i) next h
+-- "Continues an open message": it has device ID and system bytes of its first block
+unfoldable pub continuesHere : Incoming → Arriving → Header → Bool
+continuesHere i a h = continuesArriving (primaryOf i .device) (primaryOf i .system) a h
 
 abbrev pub takesAt : IncomingStage → Incoming → Header → Bool
 takesAt Free i h = false
-takesAt (Open timer next n) i h = continuesHere i next h
+takesAt (Open a) i h = continuesHere i a h
 takesAt (Complete n) i h = false
 takesAt (Replying n) i h = false
 takesAt (Replied n e) i h = false
@@ -139,15 +140,15 @@ takesAt (Replied n e) i h = false
 abbrev pub incomingTakes : Incoming → Header → Bool
 incomingTakes i h = takesAt (i .stage) i h
 
--- 4 and 5: "An open message .. ends broken."; 7: "With E = 0, T4 restarts."
-abbrev pub keptBy : Incoming → ℕ → Fate → Incoming
-keptBy i number Empty = stageAt i Free
-keptBy i number TooLong = stageAt i Free
-keptBy i number (Last n) = stageAt i (Complete n)
-keptBy i number (More n) = stageAt i (Open 0 (number + 1) n)
+-- 4 and 5: "An open message .. ends broken."; 7: kept
+abbrev pub keptBy : Incoming → Header → Fate → Incoming
+keptBy i h Empty = stageAt i Free
+keptBy i h TooLong = stageAt i Free
+keptBy i h (Last n) = stageAt i (Complete n)
+keptBy i h (More n) = stageAt i (Open (arrivingFrom h n))
 
 unfoldable pub goesOn : Incoming → Header → ℕ → Incoming
-goesOn i h size = keptBy i (h .number) (fateOf h (incomingLength i) size)
+goesOn i h size = keptBy i h (fateOf h (incomingLength i) size)
 
 -- a block that is for this place is of its message; any other leaves it as it is
 unfoldable pub incomingOffered : Incoming → Header → ℕ → Incoming
@@ -157,7 +158,7 @@ incomingOffered i h size = cond (incomingTakes i h) (goesOn i h size) i
 
 abbrev pub answeredAt : IncomingStage → Incoming → Incoming
 answeredAt Free i = i
-answeredAt (Open timer next n) i = i
+answeredAt (Open a) i = i
 answeredAt (Complete n) i = stageAt i (Replying n)
 answeredAt (Replying n) i = i
 answeredAt (Replied n e) i = i
@@ -168,7 +169,7 @@ incomingAnswered i = answeredAt (i .stage) i
 -- "A reply of ours ends sent or failed in its incoming place."
 abbrev pub endedAt : End → IncomingStage → Incoming → Incoming
 endedAt e Free i = i
-endedAt e (Open timer next n) i = i
+endedAt e (Open a) i = i
 endedAt e (Complete n) i = i
 endedAt e (Replying n) i = stageAt i (Replied n e)
 endedAt e (Replied n f) i = i
@@ -183,7 +184,7 @@ incomingFailed i = endedAt end.Failed (i .stage) i
 
 abbrev pub releasedAt : IncomingStage → Incoming → Incoming
 releasedAt Free i = i
-releasedAt (Open timer next n) i = i
+releasedAt (Open a) i = i
 releasedAt (Complete n) i = stageAt i Free
 releasedAt (Replying n) i = i
 releasedAt (Replied n e) i = stageAt i Free

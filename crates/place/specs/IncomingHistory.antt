@@ -40,7 +40,7 @@ pub data Shows : Type 0 where
 
 abbrev pub showsAt : IncomingStage → Shows
 showsAt Free = nothing
-showsAt (Open timer next n) = arriving
+showsAt (Open a) = arriving
 showsAt (Complete n) = complete
 showsAt (Replying n) = replying
 showsAt (Replied n e) = replied e

@@ -1,4 +1,5 @@
 pub mod Fate
+pub mod Arriving
 pub mod Verdict
 pub mod Own
 pub mod Incoming

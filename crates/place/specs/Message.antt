@@ -8,6 +8,8 @@ use lib.ListN.{length, getD}
 use Rattle.header.specs.Theorems.{SameElse}
 use Rattle.header.specs.declared.header.Header.{Header}
 use Rattle.settings.specs.declared.terms.Terms.{Terms}
+use Rattle.place.specs.Arriving.{kindOf}
+use Rattle.place.specs.declared.Kind.{Kind}
 
 -- a block that passed rule 1: "R-bit or device ID" are this link's incoming ones; R = 1 means to the host
 pub record Routed (c : Terms) (h : Header) : Type 0 where
@@ -18,14 +20,18 @@ pub record Routed (c : Terms) (h : Header) : Type 0 where
 abbrev pub StartsMessage : Header → Type 0
 StartsMessage h = (h .number ≡ 1) ⊎ ((h .number ≡ 0) × (h .e ≡ true))
 
--- "Continues an open message (device ID, system bytes, W, stream, function and next number)": m is a header of that message
-pub record Continues (m : Header) (next : ℕ) (h : Header) : Type 0 where
-  pub device : h .device ≡ m .device
-  pub system : h .system ≡ m .system
-  pub w : h .w ≡ m .w
-  pub stream : h .stream ≡ m .stream
-  pub function : h .function ≡ m .function
+-- "Continues an open message (device ID, system bytes, W, stream, function and next number)"
+pub record Continuing (id sys next : ℕ) (k : Kind) (h : Header) : Type 0 where
+  pub device : h .device ≡ id
+  pub system : h .system ≡ sys
+  pub w : h .w ≡ k .w
+  pub stream : h .stream ≡ k .stream
+  pub function : h .function ≡ k .function
   pub number : h .number ≡ next
+
+-- the message that m is a header of
+abbrev pub Continues : (m : Header) (next : ℕ) (h : Header) → Type 0
+Continues m next h = Continuing (m .device) (m .system) next (kindOf m) h
 
 -- "E = 0, or number above 1, with no data"
 pub record LacksData (h : Header) (size : ℕ) : Type 0 where

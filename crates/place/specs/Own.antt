@@ -10,7 +10,8 @@ use Rattle.settings.specs.Timer.{ticked}
 use Rattle.settings.specs.declared.terms.Terms.{Terms}
 use Rattle.settings.specs.declared.timer.Timer.{Timer}
 use Rattle.settings.specs.declared.timer.Timer.the-variants.{RunsOut, Runs}
-use Rattle.place.specs.Fate.{beginsReply, continuesOf, fateOf}
+use Rattle.place.specs.Fate.{beginsReply, fateOf}
+use Rattle.place.specs.Arriving.{arrivingFrom, arrivingTick, continuesArriving}
 use Rattle.place.specs.declared.Fate.{Fate}
 use Rattle.place.specs.declared.Fate.the-variants.{Empty, TooLong, Last, More}
 use Rattle.place.specs.declared.Verdict.{Verdict}
@@ -18,6 +19,9 @@ use Rattle.place.specs.declared.Verdict.the-variants.{Sent, Answered, De
 use Rattle.place.specs.declared.Standing.{Standing}
 use Rattle.place.specs.declared.Standing.the-variants as standing
 use Rattle.place.specs.declared.Reply.{Reply}
+use Rattle.place.specs.declared.Arriving.{Arriving}
+use Rattle.place.specs.declared.Waited.{Waited}
+use Rattle.place.specs.declared.Waited.the-variants as waited
 use Rattle.place.specs.declared.OwnStage.{OwnStage}
 use Rattle.place.specs.declared.OwnStage.the-variants.{Free, Sending, Awaiting, Replying, Done}
 use Rattle.place.specs.declared.Own.{Own}
@@ -38,18 +42,9 @@ noReply = record { w = false; stream = 0; function = 0; length = 0 }
 abbrev pub replyOf : Header → ℕ → Reply
 replyOf h n = record { w = h .w; stream = h .stream; function = h .function; length = n }
 
--- what all blocks of a reply to this primary share
-abbrev pub replyHeader : Header → Reply → Header
-replyHeader p r = record {
-  r = p .r;
-  device = p .device;
-  w = r .w;
-  stream = r .stream;
-  function = r .function;
-  e = false;
-  number = 0;
-  system = p .system;
-}
+-- what is known of a reply that is arriving
+abbrev pub replyFrom : Arriving → Reply
+replyFrom a = record { w = a .kind .w; stream = a .kind .stream; function = a .kind .function; length = a .length }
 
 -- a verdict, and no reply of which bytes are kept
 unfoldable pub ended : Own → Verdict → Own
@@ -62,7 +57,7 @@ abbrev pub standingAt : OwnStage → Standing
 standingAt Free = standing.Free
 standingAt Sending = standing.Open
 standingAt (Awaiting timer) = standing.Open
-standingAt (Replying timer next r) = standing.Open
+standingAt (Replying a) = standing.Open
 standingAt (Done v r) = standing.Given v
 
 abbrev pub ownStanding : Own → Standing
@@ -89,7 +84,7 @@ abbrev pub keptAt : OwnStage → Reply
 keptAt Free = noReply
 keptAt Sending = noReply
 keptAt (Awaiting timer) = noReply
-keptAt (Replying timer next r) = r
+keptAt (Replying a) = replyFrom a
 keptAt (Done v r) = r
 
 abbrev pub ownKept : Own → Reply
@@ -101,7 +96,7 @@ abbrev pub claimedAt : OwnStage → Own → List ℕ → Own
 claimedAt Free o h = record { header = h; stage = Sending }
 claimedAt Sending o h = o
 claimedAt (Awaiting timer) o h = o
-claimedAt (Replying timer next r) o h = o
+claimedAt (Replying a) o h = o
 claimedAt (Done v r) o h = o
 
 abbrev pub ownClaimed : Own → List ℕ → Own
@@ -115,7 +110,7 @@ abbrev pub sentAt : OwnStage → Own → Own
 sentAt Free o = o
 sentAt Sending o = acknowledged o
 sentAt (Awaiting timer) o = o
-sentAt (Replying timer next r) o = o
+sentAt (Replying a) o = o
 sentAt (Done v r) o = o
 
 abbrev pub ownSent : Own → Own
@@ -126,7 +121,7 @@ abbrev pub failedAt : OwnStage → Own → Own
 failedAt Free o = o
 failedAt Sending o = ended o SendFailed
 failedAt (Awaiting timer) o = o
-failedAt (Replying timer next r) o = o
+failedAt (Replying a) o = o
 failedAt (Done v r) o = o
 
 abbrev pub ownFailed : Own → Own
@@ -142,19 +137,19 @@ awaitedBy o (Runs timer) = stageAt o (Awaiting timer)
 unfoldable pub awaitTick : Terms → Own → ℕ → Own
 awaitTick c o timer = awaitedBy o (ticked (c .t3) timer)
 
--- "T4 beyond its limit breaks the message."
-abbrev pub replyingBy : Own → ℕ → Reply → Timer → Own
-replyingBy o next r RunsOut = ended o Broken
-replyingBy o next r (Runs timer) = stageAt o (Replying timer next r)
+-- "5 broken"
+abbrev pub replyingBy : Own → Waited → Own
+replyingBy o waited.Broken = ended o Broken
+replyingBy o (waited.Still a) = stageAt o (Replying a)
 
-unfoldable pub replyTick : Terms → Own → ℕ → ℕ → Reply → Own
-replyTick c o timer next r = replyingBy o next r (ticked (c .t4) timer)
+unfoldable pub replyTick : Terms → Own → Arriving → Own
+replyTick c o a = replyingBy o (arrivingTick c a)
 
 abbrev pub tickAt : Terms → OwnStage → Own → Own
 tickAt c Free o = o
 tickAt c Sending o = o
 tickAt c (Awaiting timer) o = awaitTick c o timer
-tickAt c (Replying timer next r) o = replyTick c o timer next r
+tickAt c (Replying a) o = replyTick c o a
 tickAt c (Done v r) o = o
 
 abbrev pub ownTick : Terms → Own → Own
@@ -166,15 +161,15 @@ ownTick c o = tickAt c (o .stage) o
 unfoldable pub awaits : Own → Header → Bool
 awaits o h = eqb (primaryOf o .system) (h .system) && beginsReply h
 
--- "Continues an open message"
-unfoldable pub continuesReply : Own → ℕ → Reply → Header → Bool
-continuesReply o next r h = continuesOf (replyHeader (primaryOf o) r) next h
+-- "Continues an open message": the reply has device ID and system bytes of its primary
+unfoldable pub continuesReply : Own → Arriving → Header → Bool
+continuesReply o a h = continuesArriving (primaryOf o .device) (primaryOf o .system) a h
 
 abbrev pub takesAt : OwnStage → Own → Header → Bool
 takesAt Free o h = false
 takesAt Sending o h = false
 takesAt (Awaiting timer) o h = awaits o h
-takesAt (Replying timer next r) o h = continuesReply o next r h
+takesAt (Replying a) o h = continuesReply o a h
 takesAt (Done v r) o h = false
 
 abbrev pub ownTakes : Own → Header → Bool
@@ -191,12 +186,12 @@ verdictOf o h =
     (cond (follows (h .function) (primaryOf o .function)) Answered (cond (eqb (h .function) 0) Declined Other))
     Other
 
--- 4 and 5: "An open message, or awaited reply, ends broken."; 7: "With E = 0, T4 restarts."
+-- 4 and 5: "An open message, or awaited reply, ends broken."; 7: kept
 abbrev pub repliedBy : Own → Header → Fate → Own
 repliedBy o h Empty = ended o Broken
 repliedBy o h TooLong = ended o Broken
 repliedBy o h (Last n) = stageAt o (Done (verdictOf o h) (replyOf h n))
-repliedBy o h (More n) = stageAt o (Replying 0 (h .number + 1) (replyOf h n))
+repliedBy o h (More n) = stageAt o (Replying (arrivingFrom h n))
 
 -- a block of the reply
 unfoldable pub replied : Own → Header → ℕ → Own
@@ -212,7 +207,7 @@ abbrev pub releasedAt : OwnStage → Own → Own
 releasedAt Free o = o
 releasedAt Sending o = o
 releasedAt (Awaiting timer) o = o
-releasedAt (Replying timer next r) o = o
+releasedAt (Replying a) o = o
 releasedAt (Done v r) o = stageAt o Free
 
 abbrev pub ownReleased : Own → Own

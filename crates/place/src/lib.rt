@@ -8,6 +8,31 @@
 // The model: types here, definitions and statements in `specs/`, and the proofs about them. The functions are crate `life`.
 use header::Header;
 
+// What all blocks of a message share, beside device ID and system bytes.
+pub struct Kind {
+    pub w: bool,
+    pub stream: u8,
+    pub function: u8,
+}
+
+// A message that is arriving, a reply to us or a message of the far end: blocks of it are kept, and more are to come.
+pub struct Arriving {
+    // Ticks since the last block kept (T4).
+    pub timer: u32,
+    // The number of the next block.
+    pub next: u32,
+    pub kind: Kind,
+    // How many data bytes are kept.
+    pub length: u16,
+}
+
+// What a tick leaves of it.
+pub enum Waited {
+    // "T4 beyond its limit breaks the message."
+    Broken,
+    Still(Arriving),
+}
+
 // A place of an own transaction: from the primary's acceptance to the release of its verdict.
 pub struct Own {
     // The primary's header. Block number and E are each block's own, and 0 here.
@@ -22,8 +47,8 @@ pub enum OwnStage {
     Sending,
     // Its last block was acknowledged, so many ticks ago (T3).
     Awaiting { timer: u32 },
-    // Blocks of the reply are kept, the last of them so many ticks ago (T4).
-    Replying { timer: u32, next: u32, reply: Reply },
+    // Blocks of the reply are kept, and more are to come.
+    Replying(Arriving),
     Done { verdict: Verdict, reply: Reply },
 }
 
@@ -72,8 +97,8 @@ pub struct Incoming {
 // How far it is.
 pub enum IncomingStage {
     Free,
-    // Blocks are kept, the last of them so many ticks ago (T4).
-    Open { timer: u32, next: u32, length: u16 },
+    // Blocks are kept, and more are to come.
+    Open(Arriving),
     Complete { length: u16 },
     // Our reply to it is being sent or held.
     Replying { length: u16 },

@@ -9,7 +9,7 @@ use lib.Dec.{ltb}
 use lib.ListN.{length}
 use borrow.Author.Tests.{ltb-true, ltb-false, leb-true, eqb-true, lt-ltb, le-leb, eq-eqb}
 use Rattle.wire.proofs.Choice.{either, three}
-use Rattle.room.specs.Room.{placeOf, startOf, wholeRoom, hasPlace, inArea, lies}
+use Rattle.room.specs.Room.{area, placeOf, startOf, wholeRoom, hasPlace, inArea, lies}
 use Rattle.room.specs.Theorems.{AreasInOrder, Lies, LiesExactly}
 use Rattle.room.specs.declared.Message.{Message}
 use Rattle.room.specs.declared.Message.the-variants.{Reply, Incoming, Send}
@@ -22,12 +22,12 @@ unfolding lies wholeRoom hasPlace inArea
 lies-exactly room m o n = (
   λ e.
       let w = three (wholeRoom room) (hasPlace m) (inArea o n) .0 e in
-      record { whole = eqb-true (length room) 36864 (w .0); place = ltb-true (placeOf m) 4 (w .1); within = leb-true (o + n) 4096 (w .2) },
-  λ l. three (wholeRoom room) (hasPlace m) (inArea o n) .1 (eq-eqb (length room) 36864 (l .whole), lt-ltb (placeOf m) 4 (l .place), le-leb (o + n) 4096 (l .within)),
+      record { whole = eqb-true (length room) 36864 (w .0); place = ltb-true (placeOf m) 4 (w .1); within = leb-true (o + n) area (w .2) },
+  λ l. three (wholeRoom room) (hasPlace m) (inArea o n) .1 (eq-eqb (length room) 36864 (l .whole), lt-ltb (placeOf m) 4 (l .place), le-leb (o + n) area (l .within)),
 )
 
 -- an area ends within the room
-pub area-end : (m : Message) → placeOf m < 4 → startOf m + 4096 ≤ 36864
+pub area-end : (m : Message) → placeOf m < 4 → startOf m + area ≤ 36864
 area-end (Reply p) h = omega arith
 area-end (Incoming i) h = omega arith
 area-end Send h = omega arith
@@ -48,7 +48,7 @@ tested-end room m o n at e passed found =
 
 -- the area of one message ends before that of the other starts, or the other way round
 abbrev Apart : Message → Message → Type 0
-Apart m other = (startOf other + 4096 ≤ startOf m) ⊎ (startOf m + 4096 ≤ startOf other)
+Apart m other = (startOf other + area ≤ startOf m) ⊎ (startOf m + area ≤ startOf other)
 
 -- one of two places comes first
 either-first : (p q : ℕ) → (p ≡ q → ⊥) → (p < q) ⊎ (q < p)

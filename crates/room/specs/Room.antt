@@ -7,6 +7,7 @@ use lib.Dec.{eqb, leb, ltb}
 use lib.ListN.{length}
 use Rattle.wire.specs.Bytes.{part}
 use Rattle.wire.specs.Lent.{splice}
+use Rattle.wire.specs.Message.{messageLimit}
 use Rattle.room.specs.declared.Message.{Message}
 use Rattle.room.specs.declared.Message.the-variants.{Reply, Incoming, Send}
 
@@ -14,9 +15,9 @@ use Rattle.room.specs.declared.Message.the-variants.{Reply, Incoming, Se
 abbrev pub places : ℕ
 places = 4
 
--- "4,096 each"
+-- "4,096 each": as many as the longest message has
 abbrev pub area : ℕ
-area = 4096
+area = messageLimit
 
 -- "Lent room is 36,864 bytes"
 abbrev pub roomSize : ℕ

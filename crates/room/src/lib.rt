@@ -6,12 +6,13 @@
 ghost use mathlib.Core.Path.{_≡_};
 ghost use Prim.Native.Nat.{_<_};
 ghost use Rattle.room.specs.Room.{bytesIn, hasPlace, inArea, keptIn, placeOf, places, startOf};
+use wire::MESSAGE_LIMIT;
 
 // "4 reply areas, 4 incoming areas": as many as there are places of each kind.
 const PLACES: usize = 4;
 
-// "4,096 each": the bytes of an area.
-const AREA: usize = 4096;
+// "4,096 each": the bytes of an area, as many as the longest message has.
+const AREA: usize = MESSAGE_LIMIT;
 
 // "Lent room is 36,864 bytes": an area for each place, and one for the message being sent.
 const ROOM: usize = 36864;

@@ -3,8 +3,8 @@ use mathlib.Core.Path.{sym, _∙_}
 use Rattle.wire.specs.Determined.{Determined}
 use Rattle.seek.proofs.own.own_at.Reads as own-at-reads
 use Rattle.seek.proofs.own.own_at.Kinds as own-at-kinds
-use Rattle.seek.proofs.own.put_own.Reads as put-own-reads
-use Rattle.seek.proofs.own.put_own.Kinds as put-own-kinds
+use Rattle.seek.proofs.own.own_put.Reads as own-put-reads
+use Rattle.seek.proofs.own.own_put.Kinds as own-put-kinds
 use Rattle.seek.proofs.own.free_own.Reads as free-own-reads
 use Rattle.seek.proofs.own.free_own.Kinds as free-own-kinds
 use Rattle.seek.proofs.own.reply_for.Reads as reply-for-reads
@@ -13,8 +13,8 @@ use Rattle.seek.proofs.own.tick_own.Reads as tick-own-reads
 use Rattle.seek.proofs.own.tick_own.Kinds as tick-own-kinds
 use Rattle.seek.proofs.incoming.incoming_at.Reads as incoming-at-reads
 use Rattle.seek.proofs.incoming.incoming_at.Kinds as incoming-at-kinds
-use Rattle.seek.proofs.incoming.put_incoming.Reads as put-incoming-reads
-use Rattle.seek.proofs.incoming.put_incoming.Kinds as put-incoming-kinds
+use Rattle.seek.proofs.incoming.incoming_put.Reads as incoming-put-reads
+use Rattle.seek.proofs.incoming.incoming_put.Kinds as incoming-put-kinds
 use Rattle.seek.proofs.incoming.free_incoming.Reads as free-incoming-reads
 use Rattle.seek.proofs.incoming.free_incoming.Kinds as free-incoming-kinds
 use Rattle.seek.proofs.incoming.message_for.Reads as message-for-reads
@@ -31,8 +31,8 @@ use Rattle.seek.proofs.number.next_number.Kinds as next-number-kinds
 pub own-at-determined : Determined 0 own-at-kinds.ps own-at-kinds.r own-at-reads.Asked own-at-reads.Post (λ κs r s. r)
 own-at-determined κs a = (tt, λ x y s t p q. p ∙ sym q)
 
-pub put-own-determined : Determined 0 put-own-kinds.ps put-own-kinds.r put-own-reads.Asked put-own-reads.Post (λ κs r s. r)
-put-own-determined κs a = (tt, λ x y s t p q. p ∙ sym q)
+pub own-put-determined : Determined 0 own-put-kinds.ps own-put-kinds.r own-put-reads.Asked own-put-reads.Post (λ κs r s. r)
+own-put-determined κs a = (tt, λ x y s t p q. p ∙ sym q)
 
 pub free-own-determined : Determined 0 free-own-kinds.ps free-own-kinds.r free-own-reads.Asked free-own-reads.Post (λ κs r s. r)
 free-own-determined κs a = (tt, λ x y s t p q. p ∙ sym q)
@@ -46,8 +46,8 @@ tick-own-determined κs a = (tt, λ x y s t p q. p ∙ sym q)
 pub incoming-at-determined : Determined 0 incoming-at-kinds.ps incoming-at-kinds.r incoming-at-reads.Asked incoming-at-reads.Post (λ κs r s. r)
 incoming-at-determined κs a = (tt, λ x y s t p q. p ∙ sym q)
 
-pub put-incoming-determined : Determined 0 put-incoming-kinds.ps put-incoming-kinds.r put-incoming-reads.Asked put-incoming-reads.Post (λ κs r s. r)
-put-incoming-determined κs a = (tt, λ x y s t p q. p ∙ sym q)
+pub incoming-put-determined : Determined 0 incoming-put-kinds.ps incoming-put-kinds.r incoming-put-reads.Asked incoming-put-reads.Post (λ κs r s. r)
+incoming-put-determined κs a = (tt, λ x y s t p q. p ∙ sym q)
 
 pub free-incoming-determined : Determined 0 free-incoming-kinds.ps free-incoming-kinds.r free-incoming-reads.Asked free-incoming-reads.Post (λ κs r s. r)
 free-incoming-determined κs a = (tt, λ x y s t p q. p ∙ sym q)

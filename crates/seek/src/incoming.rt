@@ -1,6 +1,6 @@
 // The four incoming places.
 ghost use mathlib.Core.Path.{_≡_};
-ghost use Rattle.table.specs.Incoming.{alikeMarks, freeIncoming, freeMarks, incomingAt, messageFor, messageMarks, openAlike, tickedIncoming, withIncoming};
+ghost use Rattle.table.specs.Incoming.{alikeMarks, freeIncoming, freeMarks, incomingAt, incomingPut, messageFor, messageMarks, openAlike, tickedIncoming};
 use crate::find::first;
 use header::Header;
 use life::incoming;
@@ -17,8 +17,8 @@ pub fn incoming_at(incoming: [Incoming; 4], place: usize) -> Incoming
     incoming::fresh()
 }
 
-pub fn put_incoming(incoming: [Incoming; 4], place: usize, put: Incoming) -> [Incoming; 4]
-    ensures { λ r. ⌜ r ≡ withIncoming incoming place put ⌝ }
+pub fn incoming_put(incoming: [Incoming; 4], place: usize, put: Incoming) -> [Incoming; 4]
+    ensures { λ r. ⌜ r ≡ incomingPut incoming place put ⌝ }
 {
     if place < 4 {
         let mut places = incoming;

@@ -9,14 +9,14 @@ mod own;
 
 pub use incoming::free_incoming;
 pub use incoming::incoming_at;
+pub use incoming::incoming_put;
 pub use incoming::message_for;
 pub use incoming::open_alike;
-pub use incoming::put_incoming;
 pub use incoming::tick_incoming;
 pub use number::next_number;
 pub use number::number_of;
 pub use own::free_own;
 pub use own::own_at;
-pub use own::put_own;
+pub use own::own_put;
 pub use own::reply_for;
 pub use own::tick_own;

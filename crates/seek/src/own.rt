@@ -1,6 +1,6 @@
 // The four own places.
 ghost use mathlib.Core.Path.{_≡_};
-ghost use Rattle.table.specs.Own.{freeMarks, freeOwn, ownAt, replyFor, replyMarks, tickedOwn, withOwn};
+ghost use Rattle.table.specs.Own.{freeMarks, freeOwn, ownAt, ownPut, replyFor, replyMarks, tickedOwn};
 use crate::find::first;
 use header::Header;
 use life::own;
@@ -17,8 +17,8 @@ pub fn own_at(own: [Own; 4], place: usize) -> Own
     own::fresh()
 }
 
-pub fn put_own(own: [Own; 4], place: usize, put: Own) -> [Own; 4]
-    ensures { λ r. ⌜ r ≡ withOwn own place put ⌝ }
+pub fn own_put(own: [Own; 4], place: usize, put: Own) -> [Own; 4]
+    ensures { λ r. ⌜ r ≡ ownPut own place put ⌝ }
 {
     if place < 4 {
         let mut places = own;

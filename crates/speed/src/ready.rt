@@ -83,11 +83,7 @@ fn own_timer(place: Own) -> u64 {
         OwnStage::Free => 0,
         OwnStage::Sending => 0,
         OwnStage::Awaiting { timer } => timer as u64,
-        OwnStage::Replying {
-            timer: _,
-            next: _,
-            reply: _,
-        } => 0,
+        OwnStage::Replying(_) => 0,
         OwnStage::Done {
             verdict: _,
             reply: _,
@@ -100,11 +96,7 @@ fn incoming_timer(place: Incoming) -> u64 {
     let stage = place.stage;
     match stage {
         IncomingStage::Free => 0,
-        IncomingStage::Open {
-            timer,
-            next: _,
-            length: _,
-        } => timer as u64,
+        IncomingStage::Open(arriving) => arriving.timer as u64,
         IncomingStage::Complete { length: _ } => 0,
         IncomingStage::Replying { length: _ } => 0,
         IncomingStage::Replied { length: _, end: _ } => 0,

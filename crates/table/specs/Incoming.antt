@@ -15,8 +15,9 @@ use Rattle.table.specs.declared.Found.{Found}
 abbrev pub incomingAt : List Incoming → ℕ → Incoming
 incomingAt is p = getD is p freshIncoming
 
-abbrev pub withIncoming : List Incoming → ℕ → Incoming → List Incoming
-withIncoming is p i = set is p i
+-- the table with place p put anew; outside it nothing is put
+abbrev pub incomingPut : List Incoming → ℕ → Incoming → List Incoming
+incomingPut is p i = set is p i
 
 abbrev pub freeMarks : List Incoming → List Bool
 freeMarks is = map incomingIsFree is

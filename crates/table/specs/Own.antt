@@ -14,8 +14,9 @@ use Rattle.table.specs.declared.Found.{Found}
 abbrev pub ownAt : List Own → ℕ → Own
 ownAt os p = getD os p freshOwn
 
-abbrev pub withOwn : List Own → ℕ → Own → List Own
-withOwn os p o = set os p o
+-- the table with place p put anew; outside it nothing is put
+abbrev pub ownPut : List Own → ℕ → Own → List Own
+ownPut os p o = set os p o
 
 abbrev pub freeMarks : List Own → List Bool
 freeMarks os = map ownIsFree os

@@ -13,8 +13,8 @@ use Rattle.place.specs.declared.Own.{Own}
 use Rattle.place.specs.declared.OwnStage.the-variants.{Sending}
 use Rattle.place.specs.declared.Incoming.{Incoming}
 use Rattle.table.specs.Find.{firstOf}
-use Rattle.table.specs.Own.{ownAt, withOwn, tickedOwn, freeOwn, replyFor}
-use Rattle.table.specs.Incoming.{incomingAt, withIncoming, tickedIncoming, freeIncoming, messageFor, openAlike}
+use Rattle.table.specs.Own.{ownAt, ownPut, tickedOwn, freeOwn, replyFor}
+use Rattle.table.specs.Incoming.{incomingAt, incomingPut, tickedIncoming, freeIncoming, messageFor, openAlike}
 use Rattle.table.specs.Number.{following, nextNumber}
 use Rattle.table.specs.declared.Found.{Found}
 use Rattle.table.specs.declared.Found.the-variants.{At, Nowhere}
@@ -38,11 +38,11 @@ pub record TicksEach {A : Type 0} (at : List A → ℕ → A) (tick : A → A) (
 
 -- "up to 4 own transactions open"
 abbrev pub OwnTable : Type 0
-OwnTable = (os : List Own) (c : Terms) → length os ≡ 4 → IsTable freshOwn ownAt withOwn os × TicksEach ownAt (ownTick c) os (tickedOwn c os)
+OwnTable = (os : List Own) (c : Terms) → length os ≡ 4 → IsTable freshOwn ownAt ownPut os × TicksEach ownAt (ownTick c) os (tickedOwn c os)
 
 -- "4 incoming areas"
 abbrev pub IncomingTable : Type 0
-IncomingTable = (is : List Incoming) (c : Terms) → length is ≡ 4 → IsTable freshIncoming incomingAt withIncoming is × TicksEach incomingAt (incomingTick c) is (tickedIncoming c is)
+IncomingTable = (is : List Incoming) (c : Terms) → length is ≡ 4 → IsTable freshIncoming incomingAt incomingPut is × TicksEach incomingAt (incomingTick c) is (tickedIncoming c is)
 
 -- ---- which place is found
 

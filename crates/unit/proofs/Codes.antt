@@ -29,7 +29,8 @@ use Rattle.line.specs.declared.step.Out.{Out}
 use Rattle.line.specs.declared.step.Out.the-variants as out
 use Rattle.exchange.specs.declared.Outgoing.{Outgoing}
 use Rattle.exchange.specs.declared.Outgoing.the-variants as outgoing
-use Rattle.link.specs.Run.{codes, putAt, bytesBy, blockIn}
+use Rattle.link.specs.Run.{codes, bytesBy, blockIn}
+use Rattle.unit.specs.Put.{putAt}
 
 -- ---- codes
 

@@ -1,14 +1,13 @@
 -- What is known once a call is past refusals 1 to 3. Assumes nothing.
 use Prim.Native.Nat.{ℕ, _≤_}
 use mathlib.Core.Path.{_≡_, sym, _∙_}
-use mathlib.Core.Bool.{Bool, true, false, _&&_}
+use mathlib.Core.Bool.{true, _&&_}
 use lib.Dec.{ltb, eqb, leb}
 use borrow.Author.Tests.{ltb-false, eqb-true, leb-true}
+use Rattle.cut.specs.Blocks.{mostBlocks}
 use Rattle.wire.proofs.Choice.{chosen, both}
 use Rattle.settings.specs.Panel.{between}
 use Rattle.link.specs.State.{outputShort, roomFits, linkInRange, gateOf}
-use Rattle.link.specs.declared.Refusal.{Refusal}
-use Rattle.link.specs.declared.Refusal.the-variants as refusal
 use Rattle.link.specs.declared.Gate.{Gate}
 use Rattle.link.specs.declared.Gate.the-variants as gate
 use Rattle.link.specs.declared.Link.{Link}
@@ -17,7 +16,7 @@ pub record Past (u : Link) (room out : ℕ) : Type 0 where
   pub output : 257 ≤ out
   pub whole : room ≡ 36864
   pub fits : linkInRange u ≡ true
-  pub block : u .block ≤ 17
+  pub block : u .block ≤ mostBlocks
 
 abbrev IsOpen : Gate → Type 0
 IsOpen gate.Open = Unit {0}
@@ -36,7 +35,7 @@ past-gate u room out =
       output = ltb-false out 257 f;
       whole = eqb-true room 36864 t;
       fits = in';
-      block = leb-true (u .block) 17 (both (leb 1 (u .block)) (leb (u .block) 17) .0 (both (leb 1 (u .block) && leb (u .block) 17) _ .0 in' .0) .1);
+      block = leb-true (u .block) mostBlocks (both (leb 1 (u .block)) (leb (u .block) mostBlocks) .0 (both (leb 1 (u .block) && leb (u .block) mostBlocks) _ .0 in' .0) .1);
     })
     (λ no z. absurd z)) (λ no z. absurd z))
 

@@ -17,7 +17,7 @@ fn fits(settings: Settings, line: Line, exchange: Exchange, block: u16) -> bool
     ensures { λ r. ⌜ r ≡ linkInRange (partsOf settings line exchange block) ⌝ }
 {
     if 1 <= block {
-        if block <= 17 {
+        if block <= cut::MOST_BLOCKS {
             if settings_in_range(settings) {
                 if line.in_range() {
                     return clerk::in_range(exchange);

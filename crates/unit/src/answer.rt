@@ -2,8 +2,8 @@
 ghost use mathlib.Core.Path.{_≡_};
 ghost use Rattle.line.specs.Codes.{faultNote};
 ghost use Rattle.link.specs.Answer.{noteBy, noteNumber, outcomeNumber, refusalNumber};
-use line::Event;
 use line::Fault;
+use line::Remark;
 use link::Note;
 use link::Outcome;
 use link::Refusal;
@@ -44,19 +44,16 @@ fn fault_number(fault: Fault) -> u8
     }
 }
 
-// What the line told, as a note. That of a block which went up is its judge's.
-pub(crate) fn note_of(event: Event) -> Note
-    ensures { λ r. ⌜ r ≡ noteBy event ⌝ }
+// What the line remarked, as a note. That of a block which went up is its judge's.
+pub(crate) fn note_of(remark: Remark) -> Note
+    ensures { λ r. ⌜ r ≡ noteBy remark ⌝ }
 {
-    match event {
-        Event::Quiet => Note::Nothing,
-        Event::Sent => Note::Nothing,
-        Event::Failed => Note::Nothing,
-        Event::GaveWay => Note::Nothing,
-        Event::Up(_) => Note::Nothing,
-        Event::NoLength => Note::NoLength,
-        Event::Gap => Note::Gap,
-        Event::Bad(fault) => Note::Bad(fault),
+    match remark {
+        Remark::Nothing => Note::Nothing,
+        Remark::GaveWay => Note::Nothing,
+        Remark::NoLength => Note::NoLength,
+        Remark::Gap => Note::Gap,
+        Remark::Bad(fault) => Note::Bad(fault),
     }
 }
 

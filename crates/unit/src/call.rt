@@ -7,13 +7,14 @@ ghost use Rattle.link.specs.Run.{left};
 ghost use Rattle.link.specs.Call.{byteCall, drainedCall, tickCall};
 use crate::admit::admits;
 use crate::admit::gate;
-use crate::run::heard;
-use crate::run::is_quiet;
-use crate::run::put_codes;
-use crate::run::settles;
-use crate::run::ticked;
+use crate::put::put_codes;
 use crate::state::refused;
+use crate::step::is_quiet;
+use crate::step::onward;
+use crate::step::unless_block;
 use line::Out;
+use line::Remark;
+use line::Told;
 use link::Answer;
 use link::Gate;
 use link::Link;
@@ -40,8 +41,9 @@ pub fn byte(mut link: Link, b: u8, room: &mut [u8], out: &mut [u8]) -> Answer
             let step = before.byte(limits, b, &mut link.received);
             let line = step.line;
             let put = step.out;
-            let event = step.event;
-            if is_quiet(put, event) {
+            let told = step.told;
+            let remark = step.remark;
+            if is_quiet(put, told, remark) {
                 let end = line.settle();
                 let after = end.line;
                 let code = end.out;
@@ -57,7 +59,7 @@ pub fn byte(mut link: Link, b: u8, room: &mut [u8], out: &mut [u8]) -> Answer
                 };
             }
             link.line = line;
-            heard(link, put, event, room, out)
+            unless_block(link, put, told, remark, room, out)
         }
         Gate::Shut(refusal) => refused(link, refusal),
     }
@@ -83,8 +85,9 @@ pub fn tick(mut link: Link, room: &mut [u8], out: &mut [u8]) -> Answer
             let step = before.tick(limits);
             let line = step.line;
             let put = step.out;
-            let event = step.event;
-            if is_quiet(put, event) {
+            let told = step.told;
+            let remark = step.remark;
+            if is_quiet(put, told, remark) {
                 if clerk::is_still(exchange) {
                     let end = line.settle();
                     let after = end.line;
@@ -102,7 +105,7 @@ pub fn tick(mut link: Link, room: &mut [u8], out: &mut [u8]) -> Answer
                 }
             }
             link.line = line;
-            ticked(link, put, event, out)
+            onward(link, put, true, told, remark, room, out)
         }
         Gate::Shut(refusal) => refused(link, refusal),
     }
@@ -117,12 +120,13 @@ pub fn drained(mut link: Link, room: &mut [u8], out: &mut [u8]) -> Answer
             let before = link.line;
             let line = before.drained();
             link.line = line;
-            settles(
+            onward(
                 link,
                 Out::Nothing,
-                Outcome::Done,
-                Note::Nothing,
-                clerk::no_flags(),
+                false,
+                Told::Nothing,
+                Remark::Nothing,
+                room,
                 out,
             )
         }

@@ -7,11 +7,15 @@
 mod admit;
 mod answer;
 mod call;
+mod courier;
+mod flags;
+mod put;
 mod reading;
 mod request;
-mod run;
 mod setup;
 mod state;
+mod step;
+mod told;
 
 pub use answer::note_number;
 pub use answer::outcome_number;

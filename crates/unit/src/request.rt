@@ -2,18 +2,21 @@
 ghost use mathlib.Core.Path.{_≡_};
 ghost use Prim.Native.Nat.{_≤_};
 ghost use lib.ListN.{length};
+ghost use Rattle.cut.specs.Blocks.{mostBlocks};
 ghost use Rattle.link.specs.Run.{left};
-ghost use Rattle.link.specs.Call.{asksBy, frees, openCall, releaseIncomingCall, releaseOwnCall, replyCall};
+ghost use Rattle.link.specs.Call.{requestedBy, frees, openCall, releaseIncomingCall, releaseOwnCall, replyCall};
 use crate::admit::gate;
 use crate::admit::in_range;
-use crate::run::settles;
+use crate::courier::course;
 use crate::state::answers;
 use crate::state::refused;
+use crate::told::untold;
 use exchange::Asked;
 use exchange::Exchange;
 use exchange::Primary;
 use exchange::Requested;
 use line::Out;
+use line::Told;
 use link::Answer;
 use link::Gate;
 use link::Link;
@@ -21,24 +24,20 @@ use link::Note;
 use link::Outcome;
 use link::Refusal;
 
-// A message that was accepted is to be sent: its first block is asked for.
-fn asks(mut link: Link, asked: Asked, exchange: Exchange, room: &[u8], out: &mut [u8]) -> Answer
-    requires { ⌜ 257 ≤ length (now out) ⌝ }
-    ensures { λ r. ⌜ left r (now (room .entry)) (now (out .exit)) ≡ asksBy asked link exchange (now (room .entry)) (now (out .entry)) ⌝ }
+// A message that was accepted is to be sent: the courier asks for its first block.
+fn asks(link: Link, asked: Asked, exchange: Exchange, room: &[u8], out: &mut [u8]) -> Answer
+    requires { ⌜ (257 ≤ length (now out)) × (link .block ≤ mostBlocks) ⌝ }
+    ensures { λ r. ⌜ left r (now (room .entry)) (now (out .exit)) ≡ requestedBy asked link exchange (now (room .entry)) (now (out .entry)) ⌝ }
 {
     match asked {
         Asked::Taken(place) => {
-            let before = link.line;
-            let line = before.ask();
-            link.line = line;
-            link.exchange = exchange;
-            link.block = 1;
-            settles(
+            course(
                 link,
                 Out::Nothing,
+                Told::Nothing,
+                untold(exchange, Note::Nothing),
                 Outcome::Taken(place),
-                Note::Nothing,
-                clerk::no_flags(),
+                room,
                 out,
             )
         }

@@ -1,10 +1,10 @@
 // From the settings that are handed to a start to those that the unit goes by (01, "Settings and time").
 ghost use mathlib.Core.Path.{_≡_};
 ghost use Prim.Native.Nat.{_≤_};
-ghost use Rattle.link.specs.Setup.{agreedBy, messagesOf, noSettings, panelOf, settingsInRange, settledOf};
+ghost use Rattle.link.specs.Setup.{agreedBy, messagesOf, noSettings, panelOf, settingsInRange, rangedOf};
 ghost use Rattle.settings.specs.Terms.{agreedOf};
+use link::Ranged;
 use link::Settings;
-use link::Settled;
 use link::Setup;
 use settings::Agreed;
 use settings::Fifths;
@@ -44,25 +44,25 @@ fn messages(setup: Setup) -> MessagePanel
     }
 }
 
-fn agreed(setup: Setup, limits: Limits) -> Settled
+fn agreed(setup: Setup, limits: Limits) -> Ranged
     ensures { λ r. ⌜ r ≡ agreedBy (agreedOf (messagesOf setup)) limits ⌝ }
 {
     match messages(setup).terms() {
-        Agreed::Terms(terms) => Settled::Settings(Settings { limits, terms }),
-        Agreed::OutOfRange => Settled::OutOfRange,
+        Agreed::Terms(terms) => Ranged::Settings(Settings { limits, terms }),
+        Agreed::OutOfRange => Ranged::OutOfRange,
     }
 }
 
 // Refusal 4: "setting out of range".
-pub(crate) fn settled(setup: Setup) -> Settled
-    ensures { λ r. ⌜ r ≡ settledOf setup ⌝ }
+pub(crate) fn ranged(setup: Setup) -> Ranged
+    ensures { λ r. ⌜ r ≡ rangedOf setup ⌝ }
 {
     if 31 < setup.rty {
-        return Settled::OutOfRange;
+        return Ranged::OutOfRange;
     }
     match panel(setup).limits() {
         Taken::Limits(limits) => agreed(setup, limits),
-        Taken::OutOfRange => Settled::OutOfRange,
+        Taken::OutOfRange => Ranged::OutOfRange,
     }
 }
 

@@ -2,16 +2,16 @@
 ghost use mathlib.Core.Path.{_≡_};
 ghost use Rattle.link.specs.State.{answerAs, freshLink, refusedAs, startOf};
 use crate::setup::no_settings;
-use crate::setup::settled;
+use crate::setup::ranged;
 use exchange::Flags;
 use line::Line;
 use link::Answer;
 use link::Link;
 use link::Note;
 use link::Outcome;
+use link::Ranged;
 use link::Refusal;
 use link::Settings;
-use link::Settled;
 use link::Setup;
 
 // The line idle, no place in use.
@@ -62,8 +62,8 @@ pub(crate) fn refused(link: Link, refusal: Refusal) -> Answer
 pub fn start(setup: Setup) -> Answer
     ensures { λ r. ⌜ r ≡ startOf setup ⌝ }
 {
-    match settled(setup) {
-        Settled::Settings(settings) => {
+    match ranged(setup) {
+        Ranged::Settings(settings) => {
             answers(
                 fresh(settings, setup.last),
                 0,
@@ -72,6 +72,6 @@ pub fn start(setup: Setup) -> Answer
                 clerk::no_flags(),
             )
         }
-        Settled::OutOfRange => { refused(fresh(no_settings(), 0), Refusal::Setting) }
+        Ranged::OutOfRange => { refused(fresh(no_settings(), 0), Refusal::Setting) }
     }
 }

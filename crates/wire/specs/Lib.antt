@@ -1,5 +1,6 @@
 pub mod Bytes
 pub mod Lent
+pub mod Message
 pub mod Sum
 pub mod Theorems
 pub mod Table

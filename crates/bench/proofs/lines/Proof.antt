@@ -14,6 +14,31 @@ Inv-loop piece line₀ room₀ out₀ text₀ now₀ at₀ line room out text no
 abbrev μ-loop : tie.MeasureT-loop
 μ-loop piece line₀ room₀ out₀ text₀ now₀ at₀ line room out text now at = length piece - at
 
+-- the places in the code that the answers speak of
+abbrev start-from-at-loop : tie.At-loop Inv-loop μ-loop → tie.Start Inv-loop μ-loop
+start-from-at-loop c = c .before .before .before .before .before .before
+
+abbrev at-loop : tie.After-find Inv-loop μ-loop → tie.At-loop Inv-loop μ-loop
+at-loop c = c .before .before
+
+abbrev start : tie.After-find Inv-loop μ-loop → tie.Start Inv-loop μ-loop
+start c = c .before .before .before .before .before .before .before .before
+
+abbrev find : tie.After-keep Inv-loop μ-loop → tie.After-find Inv-loop μ-loop
+find c = c .before .before .before
+
+abbrev at-loop-from-keep : tie.After-keep Inv-loop μ-loop → tie.At-loop Inv-loop μ-loop
+at-loop-from-keep c = c .before .before .before .before .before
+
+abbrev in-loop : tie.After-keep Inv-loop μ-loop → tie.In-loop Inv-loop μ-loop
+in-loop c = c .before .before .before .before
+
+abbrev keep : tie.After-line-end Inv-loop μ-loop → tie.After-keep Inv-loop μ-loop
+keep c = c .before .before .before .before .before .before .before .before
+
+abbrev else1 : tie.After-line-end Inv-loop μ-loop → tie.Else1 Inv-loop μ-loop
+else1 c = c .before .before .before .before .before
+
 loop-holds : tie.Need-loop-holds Inv-loop μ-loop
 loop-holds c = (refl, refl, refl, refl)
 
@@ -48,13 +73,13 @@ returns : tie.Need-returns Inv-loop μ-loop
 returns c = search needs
 
 line-end-requires : tie.Need-line-end-requires Inv-loop μ-loop
-line-end-requires c κs = omega (arith, c .before .before .before .before .before .before .before .before .before .before .before .before .loop .inv .2, c .before .before .before .before .before .before .before .before .before .before .before .before .before .before .before .before .before .before .pre)
+line-end-requires c κs = omega (arith, (at-loop (c .before .before .before .before .before .before .before .before .before .before)) .loop .inv .2, (start (c .before .before .before .before .before .before .before .before .before .before)) .pre)
 
 add-at : tie.Need-add-at Inv-loop μ-loop
-add-at c = let h : c .before .before .before .before .before .before .before .before .before .before .before .before .before .before .before .before .before .find .result + 1 ≤ length (c .before .before .before .before .before .before .before .before .before .before .before .before .before .before .before .before .before .before .before .before .before .before .before .before .before .args .piece .now) = omega (arith, c .before .before .before .before .before .before .before .before .before .before .before .if1 .left, c .before .before .before .before .before .before .before .before .before .before .before .before .before .before .before .before .before .find .ensures .1) in search (needs, h, c .before .before .before .before .before .before .before .before .before .before .before .before .before .before .before .before .before .before .before .before .before .before .before .before .before .good)
+add-at c = let h : (find (keep (c .before .before .before .before .before .before))) .find .result + 1 ≤ length ((start-from-at-loop (at-loop-from-keep (keep (c .before .before .before .before .before .before)))) .args .piece .now) = omega (arith, (else1 (c .before .before .before .before .before .before)) .if1 .left, (find (keep (c .before .before .before .before .before .before))) .find .ensures .1) in search (needs, h, (start-from-at-loop (at-loop-from-keep (keep (c .before .before .before .before .before .before)))) .good)
 
 loop-less : tie.Need-loop-less Inv-loop μ-loop
-loop-less c = omega (arith, c .before .before .before .before .before .before .before .before .before .before .before .before .before .before .before .before .before .before .loop-test .taken, c .before .before .before .before .before .before .before .before .before .before .before .before .before .before .before .before .before .find .ensures .1, c .before .before .before .before .before .before .before .before .before .before .before .before .before .before .before .before .before .find .ensures .0, c .before .before .before .before .before .before .before .before .before .before .before .if1 .left)
+loop-less c = omega (arith, (in-loop (keep (c .before .before .before .before .before .before))) .loop-test .taken, (find (keep (c .before .before .before .before .before .before))) .find .ensures .1, (find (keep (c .before .before .before .before .before .before))) .find .ensures .0, (else1 (c .before .before .before .before .before .before)) .if1 .left)
 
 loop-again : tie.Need-loop-again Inv-loop μ-loop
 loop-again c = search needs

@@ -13,6 +13,13 @@ Inv-loop line₀ room₀ out₀ text₀ now₀ turns₀ line room out text now t
 abbrev μ-loop : tie.MeasureT-loop
 μ-loop line₀ room₀ out₀ text₀ now₀ turns₀ line room out text now turns = turns
 
+-- the places in the code that the answers speak of
+abbrev start : tie.After-nothing-started Inv-loop μ-loop → tie.Start Inv-loop μ-loop
+start c = c .before .before .before .before .before
+
+abbrev at-loop : tie.After-line Inv-loop μ-loop → tie.At-loop Inv-loop μ-loop
+at-loop c = c .before .before .before .before .before .before .before
+
 nothing-started-requires : tie.Need-nothing-started-requires Inv-loop μ-loop
 nothing-started-requires c κs = search needs
 
@@ -20,19 +27,19 @@ loop-holds : tie.Need-loop-holds Inv-loop μ-loop
 loop-holds c = (refl, refl, refl, refl)
 
 take-piece-requires : tie.Need-take-piece-requires Inv-loop μ-loop
-take-piece-requires c κs = omega (arith, c .before .before .before .before .before .loop .inv .2, c .before .before .before .before .before .before .before .before .before .before .before .pre)
+take-piece-requires c κs = omega (arith, c .before .before .before .before .before .loop .inv .2, (start (c .before .before .before .before .before .before)) .pre)
 
 same-length : tie.Need-same-length Inv-loop μ-loop
-same-length c = search (needs, c .before .before .before .before .before .before .before .before .before .before .line .given, c .before .before .before .before .before .before .before .before .room .given, c .before .before .before .before .before .before .out .given, c .before .before .before .before .text .given, c .before .before .before .before .before .before .before .before .before .before .before .before .before .before .before .before .before .loop .inv)
+same-length c = search (needs, c .before .before .before .before .before .before .before .before .before .before .line .given, c .before .before .before .before .before .before .before .before .room .given, c .before .before .before .before .before .before .out .given, c .before .before .before .before .text .given, (at-loop (c .before .before .before .before .before .before .before .before .before .before)) .loop .inv)
 
 same-length-2 : tie.Need-same-length-2 Inv-loop μ-loop
-same-length-2 c = search (needs, c .before .before .before .before .before .before .before .before .before .before .line .given, c .before .before .before .before .before .before .before .before .room .given, c .before .before .before .before .before .before .out .given, c .before .before .before .before .text .given, c .before .before .before .before .before .before .before .before .before .before .before .before .before .before .before .before .before .loop .inv)
+same-length-2 c = search (needs, c .before .before .before .before .before .before .before .before .before .before .line .given, c .before .before .before .before .before .before .before .before .room .given, c .before .before .before .before .before .before .out .given, c .before .before .before .before .text .given, (at-loop (c .before .before .before .before .before .before .before .before .before .before)) .loop .inv)
 
 same-length-3 : tie.Need-same-length-3 Inv-loop μ-loop
-same-length-3 c = search (needs, c .before .before .before .before .before .before .before .before .before .before .line .given, c .before .before .before .before .before .before .before .before .room .given, c .before .before .before .before .before .before .out .given, c .before .before .before .before .text .given, c .before .before .before .before .before .before .before .before .before .before .before .before .before .before .before .before .before .loop .inv)
+same-length-3 c = search (needs, c .before .before .before .before .before .before .before .before .before .before .line .given, c .before .before .before .before .before .before .before .before .room .given, c .before .before .before .before .before .before .out .given, c .before .before .before .before .text .given, (at-loop (c .before .before .before .before .before .before .before .before .before .before)) .loop .inv)
 
 same-length-4 : tie.Need-same-length-4 Inv-loop μ-loop
-same-length-4 c = search (needs, c .before .before .before .before .before .before .before .before .before .before .line .given, c .before .before .before .before .before .before .before .before .room .given, c .before .before .before .before .before .before .out .given, c .before .before .before .before .text .given, c .before .before .before .before .before .before .before .before .before .before .before .before .before .before .before .before .before .loop .inv)
+same-length-4 c = search (needs, c .before .before .before .before .before .before .before .before .before .before .line .given, c .before .before .before .before .before .before .before .before .room .given, c .before .before .before .before .before .before .out .given, c .before .before .before .before .text .given, (at-loop (c .before .before .before .before .before .before .before .before .before .before)) .loop .inv)
 
 returns : tie.Need-returns Inv-loop μ-loop
 returns c = search needs
@@ -44,7 +51,7 @@ loop-less : tie.Need-loop-less Inv-loop μ-loop
 loop-less c = search needs
 
 loop-again : tie.Need-loop-again Inv-loop μ-loop
-loop-again c = search (needs, c .before .before .before .before .before .before .before .before .before .before .line .given, c .before .before .before .before .before .before .before .before .room .given, c .before .before .before .before .before .before .out .given, c .before .before .before .before .text .given, c .before .before .before .before .before .before .before .before .before .before .before .before .before .before .before .before .before .loop .inv)
+loop-again c = search (needs, c .before .before .before .before .before .before .before .before .before .before .line .given, c .before .before .before .before .before .before .before .before .room .given, c .before .before .before .before .before .before .out .given, c .before .before .before .before .text .given, (at-loop (c .before .before .before .before .before .before .before .before .before .before)) .loop .inv)
 
 same-length-5 : tie.Need-same-length-5 Inv-loop μ-loop
 same-length-5 c = c .before .loop .inv .0

@@ -9,6 +9,10 @@ use borrow.Author.Needs.{needs}
 use Rattle.bench.proofs.run.byte.Statement.{statement}
 use Rattle.bench.proofs.run.byte.Tie as tie
 
+-- the places in the code that the answers speak of
+abbrev start : tie.After-link → tie.Start
+start c = c .before .before .before
+
 pub byte-spec : {M : Type 1} → statement M
 byte-spec =
     tie.close
@@ -16,4 +20,4 @@ byte-spec =
     (λ c. search needs) (λ c. search needs) (λ c. search needs) (λ c κs. search needs)
     (λ c κs. (omega (arith, c .before .before .before .before .before .before .before .before .before .before .pre), few (c .before .before .before .before .before .before .before .before .before .before .args .ran .link) (c .before .before .before .before .before .before .before .before .before .before .args .room .now) (take (length (c .before .before .before .before .before .before .before .before .before .before .args .out .now) - c .before .before .before .before .before .before .before .before .before .before .args .ran .count) (drop (c .before .before .before .before .before .before .before .before .before .before .args .ran .count) (c .before .before .before .before .before .before .before .before .before .before .args .out .now))) (call.byte (c .before .before .before .before .before .before .before .before .before .before .args .b) (c .before .before .before .before .before .before .before .before .before .before .fits .b .fits)) _ (c .before .before .before .before .byte .ensures)))
     (λ c. search needs) (λ c. search needs)
-    (λ c. joined-back (byteCall (c .before .before .before .before .before .before .before .before .before .before .before .args .ran .link) (c .before .before .before .before .before .before .before .before .before .before .before .args .b) (c .before .before .before .before .before .before .before .before .before .before .before .args .room .now)) (c .before .before .before .before .before .before .before .before .before .before .before .args .out .now) _ _ (c .before .before .before .before .before .before .before .before .before .before .before .args .ran .count) _ _ (c .before .before .before .before .before .before .before .before .before .before .before .pre .0) (c .before .before .before .before .before .byte .ensures) (c .joined .ensures)))
+    (λ c. joined-back (byteCall ((start (c .before .before .before .before .before .before .before .before)) .args .ran .link) ((start (c .before .before .before .before .before .before .before .before)) .args .b) ((start (c .before .before .before .before .before .before .before .before)) .args .room .now)) ((start (c .before .before .before .before .before .before .before .before)) .args .out .now) _ _ ((start (c .before .before .before .before .before .before .before .before)) .args .ran .count) _ _ ((start (c .before .before .before .before .before .before .before .before)) .pre .0) (c .before .before .before .before .before .byte .ensures) (c .joined .ensures)))

@@ -18,6 +18,10 @@ Inv-loop bytes room₀ out₀ ran₀ i₀ room out ran i = (i ≤ length bytes) 
 abbrev μ-loop : tie.MeasureT-loop
 μ-loop bytes room₀ out₀ ran₀ i₀ room out ran i = length bytes - i
 
+-- the places in the code that the answers speak of
+abbrev start : tie.After-nothing Inv-loop μ-loop → tie.Start Inv-loop μ-loop
+start c = c .before .before .before .before
+
 nothing-requires : tie.Need-nothing-requires Inv-loop μ-loop
 nothing-requires c κs = search needs
 
@@ -31,14 +35,14 @@ byte-requires : tie.Need-byte-requires Inv-loop μ-loop
 byte-requires c κs = (c .before .before .before .before .loop .inv .2, omega (arith, c .before .before .before .before .loop .inv .3, c .before .before .before .before .before .before .before .before .before .pre))
 
 add-i : tie.Need-add-i Inv-loop μ-loop
-add-i c = search (needs, c .before .before .before .before .before .before .before .before .loop-test .taken, c .before .before .before .before .before .before .before .before .before .before .before .before .before .before .good)
+add-i c = search (needs, c .before .before .before .before .before .before .before .before .loop-test .taken, (start (c .before .before .before .before .before .before .before .before .before .before)) .good)
 
 loop-less : tie.Need-loop-less Inv-loop μ-loop
 loop-less c = omega (arith, c .before .before .before .before .before .before .before .before .loop-test .taken)
 
 loop-again : tie.Need-loop-again Inv-loop μ-loop
 loop-again c =
-    let bs = c .before .before .before .before .before .before .before .before .before .before .before .before .before .before .args .bytes .now in
+    let bs = (start (c .before .before .before .before .before .before .before .before .before .before)) .args .bytes .now in
     let i = c .before .before .before .before .before .before .before .before .before .loop .i in
     let s = running (c .before .before .before .before .before .before .before .before .before .loop .ran) (c .before .before .before .before .before .before .before .before .before .loop .room) (c .before .before .before .before .before .before .before .before .before .loop .out) in
     let e = c .before .before .before .before .byte .ensures in

@@ -15,4 +15,4 @@ begins-at-spec =
     (λ c κs. search needs)
     (λ c κs. search needs)
     (λ c. search needs)
-    (λ c. simp (c .before .with-incoming .ensures, c .before .before .before .before .keep .ensures, c .before .before .before .before .before .before .begun .ensures, c .before .before .before .before .before .before .before .incoming-place .ensures, c .incoming-flags .ensures)))
+    (λ c. simp (c .before .put-incoming .ensures, c .before .before .before .before .keep .ensures, c .before .before .before .before .before .before .begun .ensures, c .before .before .before .before .before .before .before .incoming-place .ensures, c .incoming-flags .ensures)))

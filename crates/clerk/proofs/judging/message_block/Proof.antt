@@ -4,6 +4,13 @@ use borrow.Author.Needs.{needs}
 use Rattle.clerk.proofs.judging.message_block.Statement.{statement}
 use Rattle.clerk.proofs.judging.message_block.Tie as tie
 
+-- the places in the code that the answers speak of
+abbrev length : tie.After-fate-of → tie.After-length
+length c = c .before
+
+abbrev incoming-place : tie.After-fate-of → tie.After-incoming-place
+incoming-place c = c .before .before
+
 pub message-block-spec : {M : Type 1} → statement M
 unfolding messageBlock
 message-block-spec =
@@ -20,4 +27,4 @@ message-block-spec =
     (λ c κs. search needs)
     (λ c κs. search needs)
     (λ c. search needs)
-    (λ c. simp (c .before .is-spoilt .ensures, c .before .before .is-last .ensures, c .before .before .before .note-of .ensures, c .before .before .before .before .with-incoming .ensures, c .before .before .before .before .before .before .before .keep-by .ensures, c .before .before .before .before .before .before .before .before .before .offered .ensures, c .before .before .before .before .before .before .before .before .before .before .fate-of .ensures, c .before .before .before .before .before .before .before .before .before .before .before .length .ensures, c .before .before .before .before .before .before .before .before .before .before .before .before .incoming-place .ensures, c .incoming-flags .ensures)))
+    (λ c. simp (c .before .is-spoilt .ensures, c .before .before .is-last .ensures, c .before .before .before .note-of .ensures, c .before .before .before .before .put-incoming .ensures, c .before .before .before .before .before .before .before .keep-by .ensures, c .before .before .before .before .before .before .before .before .before .offered .ensures, c .before .before .before .before .before .before .before .before .before .before .fate-of .ensures, (length (c .before .before .before .before .before .before .before .before .before .before)) .length .ensures, (incoming-place (c .before .before .before .before .before .before .before .before .before .before)) .incoming-place .ensures, c .incoming-flags .ensures)))

@@ -16,4 +16,4 @@ release-incoming-spec =
     (λ c. simp (sym (rw (c .before .before .before .incoming-place .ensures) at (c .before .before .not-ready .ensures)) ∙ c .before .if1 .taken) (c .refused .ensures))
     (λ c κs. search needs)
     (λ c κs. search needs)
-    (λ c. simp (sym (rw (c .before .before .before .before .incoming-place .ensures) at (c .before .before .before .not-ready .ensures)) ∙ c .before .before .if1 .left, c .before .released .ensures, c .before .before .before .before .incoming-place .ensures, c .with-incoming .ensures)))
+    (λ c. simp (sym (rw (c .before .before .before .before .incoming-place .ensures) at (c .before .before .before .not-ready .ensures)) ∙ c .before .before .if1 .left, c .before .released .ensures, c .before .before .before .before .incoming-place .ensures, c .put-incoming .ensures)))

@@ -14,6 +14,6 @@ release-own-spec =
     (λ c κs. search needs)
     (λ c κs. search needs)
     (λ c κs. search needs)
-    (λ c. simp (sym (rw (c .before .before .before .before .own-place .ensures) at (c .before .before .before .has-verdict .ensures)) ∙ c .before .before .if1 .taken, c .before .released .ensures, c .before .before .before .before .own-place .ensures, c .with-own .ensures))
+    (λ c. simp (sym (rw (c .before .before .before .before .own-place .ensures) at (c .before .before .before .has-verdict .ensures)) ∙ c .before .before .if1 .taken, c .before .released .ensures, c .before .before .before .before .own-place .ensures, c .put-own .ensures))
     (λ c κs. search needs)
     (λ c. simp (sym (rw (c .before .before .before .own-place .ensures) at (c .before .before .has-verdict .ensures)) ∙ c .before .if1 .left) (c .refused .ensures)))

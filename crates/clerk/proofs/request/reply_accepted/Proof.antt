@@ -16,4 +16,4 @@ reply-accepted-spec =
     (λ c κs. search needs)
     (λ c κs. search needs)
     (λ c. search needs)
-    (λ c. simp (c .before .with-incoming .ensures, c .before .before .answered .ensures, c .before .before .before .incoming-place .ensures, c .before .before .before .before .before .before .keep .ensures, c .with-sending .ensures)))
+    (λ c. simp (c .before .put-incoming .ensures, c .before .before .answered .ensures, c .before .before .before .incoming-place .ensures, c .before .before .before .before .before .before .keep .ensures, c .with-sending .ensures)))

@@ -14,4 +14,4 @@ ended-own-spec =
     (λ c κs. search needs)
     (λ c κs. search needs)
     (λ c κs. search needs)
-    (λ c. simp (c .before .with-own .ensures, c .before .before .verdict-flag .ensures, c .before .before .before .got-verdict .ensures, c .before .before .before .before .own-place .ensures, c .with-sending .ensures)))
+    (λ c. simp (c .before .put-own .ensures, c .before .before .verdict-flag .ensures, c .before .before .before .got-verdict .ensures, c .before .before .before .before .own-place .ensures, c .with-sending .ensures)))

@@ -12,4 +12,4 @@ ended-reply-spec =
     (λ c κs. search needs)
     (λ c κs. search needs)
     (λ c κs. search needs)
-    (λ c. simp (c .before .with-incoming .ensures, c .before .before .no-flags .ensures, c .with-sending .ensures)))
+    (λ c. simp (c .before .put-incoming .ensures, c .before .before .no-flags .ensures, c .with-sending .ensures)))

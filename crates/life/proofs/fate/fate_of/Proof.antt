@@ -3,7 +3,8 @@ use mathlib.Core.Path.{sym, _∙_}
 use borrow.Author.Tests.{lt-ltb, le-ltb}
 use native.Mathlib.Omega.{arith}
 use Prim.Native.Nat.{_+_}
-use Rattle.place.specs.Fate.{messageLimit, fateOf, tooLong}
+use Rattle.wire.specs.Message.{messageLimit}
+use Rattle.place.specs.Fate.{fateOf, tooLong}
 use borrow.Author.Needs.{needs}
 use Rattle.life.proofs.fate.fate_of.Statement.{statement}
 use Rattle.life.proofs.fate.fate_of.Tie as tie

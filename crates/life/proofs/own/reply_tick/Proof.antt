@@ -16,4 +16,4 @@ reply-tick-spec =
     (λ c. search needs)
     (λ c κs. search needs)
     (λ c. simp (sym (c .before .before .before .tick .ensures) ∙ c .before .enum-told .given .1) (c .ended .ensures))
-    (λ c. simp (sym (c .before .before .before .before .tick .ensures) ∙ c .before .before .timer .given .1) (c .at .ensures)))
+    (λ c. simp (sym (c .before .before .before .before .tick .ensures) ∙ c .before .before .arriving .given .1) (c .at .ensures)))

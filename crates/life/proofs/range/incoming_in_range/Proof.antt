@@ -17,7 +17,7 @@ incoming-in-range-spec =
     (λ c. search needs)
     (λ c κs. search needs)
     (λ c. simp (c .enum-told .given .1))
-    (λ c. simp (c .before .before .stage .given .1) (c .open-in-range .ensures))
+    (λ c. simp (c .before .before .stage .given .1) (c .arriving-in-range .ensures))
     (λ c. simp (c .before .before .stage2 .given .1) (c .length-in-range .ensures))
     (λ c. simp (c .before .before .stage3 .given .1) (c .length-in-range2 .ensures))
     (λ c. simp (c .before .before .stage4 .given .1) (c .length-in-range3 .ensures)))

@@ -18,5 +18,5 @@ own-in-range-spec =
     (λ c. simp (c .enum-told .given .1))
     (λ c. simp (c .enum-told2 .given .1))
     (λ c. simp (c .before .before .stage .given .1) (c .timer-in-range .ensures))
-    (λ c. simp (c .before .before .stage2 .given .1) (c .open-in-range .ensures))
+    (λ c. simp (c .before .before .stage2 .given .1) (c .arriving-in-range .ensures))
     (λ c. simp (c .before .before .stage3 .given .1) (c .length-in-range .ensures)))

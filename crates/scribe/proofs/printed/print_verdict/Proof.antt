@@ -7,6 +7,10 @@ use Rattle.script.proofs.Printing.{put-three, number-length, number-short, verd
 use Rattle.scribe.proofs.printed.print_verdict.Statement.{statement}
 use Rattle.scribe.proofs.printed.print_verdict.Tie as tie
 
+-- the places in the code that the answers speak of
+abbrev start : tie.Else1 → tie.Start
+start c = c .before .before .before .before
+
 -- where there is room, each field stands where the one before it ends
 returns-2 : tie.Need-returns-2
 returns-2 c =
@@ -32,6 +36,6 @@ print-verdict-spec =
     (λ c. no-room _ _ (omega (arith, verdict-length (c .before .before .before .before .args .place) (c .before .before .before .before .args .verdict))))
     (λ c. search needs) (λ c κs. search needs)
     (λ c κs. omega (arith, number-length (c .before .before .before .before .before .before .before .before .before .before .args .place) 0x20))
-    (λ c κs. omega (arith, number-length (c .before .before .before .before .before .before .before .before .before .before .before .before .before .before .args .place) 0x20, number-length (c .before .before .before .before .before .before .before .before .before .before .before .before .before .before .args .verdict) 0x0A))
+    (λ c κs. omega (arith, number-length ((start (c .before .before .before .before .before .before .before .before .before .before)) .args .place) 0x20, number-length ((start (c .before .before .before .before .before .before .before .before .before .before)) .args .verdict) 0x0A))
     (λ c. search needs)
     returns-2)

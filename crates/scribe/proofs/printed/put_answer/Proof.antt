@@ -8,6 +8,10 @@ use Rattle.script.proofs.Printing.{three-length, put-three}
 use Rattle.scribe.proofs.printed.put_answer.Statement.{statement}
 use Rattle.scribe.proofs.printed.put_answer.Tie as tie
 
+-- the places in the code that the answers speak of
+abbrev start : tie.After-put-number → tie.Start
+start c = c .before .before .before .before
+
 fits : (c : tie.Start)
     → length (numberField (c .args .number) 0x20) + length (dataField (c .args .bytes .now)) + length (numberField (c .args .note) 0x0A) ≤ length (c .args .text .now)
 fits c = omega (arith, three-length (numberField (c .args .number) 0x20) (dataField (c .args .bytes .now)) (numberField (c .args .note) 0x0A))
@@ -29,6 +33,6 @@ put-answer-spec =
     (tie.spec
     (λ c κs. omega (arith, fits (c .before .before .before)))
     (λ c κs. omega (arith, fits (c .before .before .before .before .before .before .before)))
-    (λ c κs. omega (arith, fits (c .before .before .before .before .before .before .before .before .before .before .before)))
+    (λ c κs. omega (arith, fits ((start (c .before .before .before .before .before .before .before)))))
     (λ c. search needs)
     returns)

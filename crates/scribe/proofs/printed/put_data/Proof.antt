@@ -7,6 +7,10 @@ use Rattle.script.proofs.Printing.{put-some, hex-length, no-data, data-length}
 use Rattle.scribe.proofs.printed.put_data.Statement.{statement}
 use Rattle.scribe.proofs.printed.put_data.Tie as tie
 
+-- the places in the code that the answers speak of
+abbrev start : tie.Else1 → tie.Start
+start c = c .before .before .before
+
 -- no bytes
 returns : tie.Need-returns
 returns c =
@@ -36,6 +40,6 @@ put-data-spec =
     (λ c. omega (arith, data-length (c .before .before .before .before .before .before .before .args .bytes .now)))
     (λ c. search needs)
     (λ c κs. search needs)
-    (λ c. omega (arith, data-length (c .before .before .before .before .before .before .before .before .before .before .before .before .args .bytes .now)))
+    (λ c. omega (arith, data-length ((start (c .before .before .before .before .before .before .before .before .before)) .args .bytes .now)))
     (λ c. search needs)
     returns-2)

@@ -1,6 +1,6 @@
 -- `admit::gate` meets its contract. Assumes nothing.
 use mathlib.Core.Path.{_∙_}
-use Rattle.unit.proofs.Turns.{by-parts}
+use Rattle.unit.proofs.Courses.{by-parts}
 use borrow.Author.Needs.{needs}
 use Rattle.unit.proofs.admit.gate.Statement.{statement}
 use Rattle.unit.proofs.admit.gate.Tie as tie

@@ -1,6 +1,6 @@
 -- `admit::in_range` meets its contract. Assumes nothing.
 use mathlib.Core.Path.{_∙_}
-use Rattle.unit.proofs.Turns.{in-range-parts}
+use Rattle.unit.proofs.Courses.{in-range-parts}
 use borrow.Author.Needs.{needs}
 use Rattle.unit.proofs.admit.in_range.Statement.{statement}
 use Rattle.unit.proofs.admit.in_range.Tie as tie

@@ -12,5 +12,5 @@ low-byte-spec =
     (tie.spec
     (λ c κs. search needs)
     (λ c κs. search needs)
-    (λ c. simp (eq-eqb _ _ (c .before .if1 .taken)) (c .goes .ensures))
+    (λ c. simp (eq-eqb _ _ (c .before .if1 .taken)) (c .tells .ensures))
     (λ c. simp (ne-eqb _ _ (c .before .if1 .left)) (c .listens .ensures)))

@@ -12,5 +12,5 @@ retry-spec =
     tie.close
     (tie.spec
     (λ c κs. search needs) (λ c. search needs) (λ c κs. search needs)
-    (λ c. simp (above (c .before .before .before .args .limits) (c .before .before .before .args .tries) (omega (arith, c .before .if1 .taken))) (c .goes .ensures))
-    (λ c. simp (not-above (c .before .before .before .args .limits) (c .before .before .before .args .tries) (omega (arith, c .before .if1 .left))) (c .goes2 .ensures)))
+    (λ c. simp (above (c .before .before .before .args .limits) (c .before .before .before .args .tries) (omega (arith, c .before .if1 .taken))) (c .tells .ensures))
+    (λ c. simp (not-above (c .before .before .before .args .limits) (c .before .before .before .args .tries) (omega (arith, c .before .if1 .left))) (c .goes .ensures)))

@@ -1,0 +1,3 @@
+pub mod Told
+pub mod Says
+pub mod Remarks

@@ -1,0 +1,155 @@
+-- What is proved of a line, seen at the door of the unit (`specs/Door.antt`). Assumes nothing.
+use Prim.Native.Nat.{ℕ, _+_, _≤_}
+use mathlib.Core.Path.{_≡_, refl, sym, ap, subst, _∙_}
+use mathlib.Core.List.{List, [], _∷_, _++_, append-nil}
+use mathlib.Core.Bool.{Bool, true, false≢true}
+use mathlib.Core.Logic.{_⊎_, inl, inr}
+use native.Mathlib.Omega.{arith}
+use lib.ListN.{length}
+use Rattle.settings.specs.declared.limits.Limits.{Limits}
+use Rattle.line.specs.Codes.{ENQ, EOT, ACK, NAK, bytesOut}
+use Rattle.line.specs.Line.{lineAt, busy}
+use Rattle.line.specs.History as line
+use Rattle.line.specs.History.{none, oursAt, theirsAt}
+use Rattle.line.specs.Theorems.{Counts}
+use Rattle.line.proofs.Invariant.{At}
+use Rattle.line.proofs.Always.{always}
+use Rattle.line.proofs.Sending.{send-ends, tries-are-enqs, each-enq-its-block}
+use Rattle.line.proofs.Receiving.{receive-ends, nak-in-time}
+use Rattle.line.specs.declared.phase.Phase.{Phase}
+use Rattle.line.specs.declared.phase.Phase.the-variants.{Idle, WaitEot, Draining, WaitAck, WaitLength, Body, Silence}
+use Rattle.line.specs.declared.line.Line.{Line}
+use Rattle.line.specs.declared.step.Out.{Out}
+use Rattle.line.specs.declared.step.Out.the-variants as out
+use Rattle.link.specs.Run.{blockBytes, byteStep}
+use Rattle.link.specs.Reading.{sendingOf}
+use Rattle.link.specs.History.{byte, unlessRefused, settles, couriersIn, onLine, Track, lineTrack, limitsIn, lentRoom, Made, answered, next}
+use Rattle.link.specs.Inside.{Reached}
+use Rattle.link.specs.Door.{lineBytes, onWay, accepted, kind, watches, Watch, watchOf, AtDoor, SendWithin, SendEnds, TriesAreEnqs, made, EachEnqItsBlock, NoneForgotten, ReceiveWithin, ReceiveEnds, followed, OverBy, ReceiveEndsBy, HeldFollows, SendEndsBy}
+use Rattle.link.specs.declared.Settings.{Settings}
+use Rattle.link.specs.declared.Outcome.{Outcome}
+use Rattle.link.specs.declared.Outcome.the-variants as outcome
+use Rattle.link.proofs.inside.Reached.{settings-stay, line-inside}
+use Rattle.link.proofs.inside.Agrees.{agrees}
+use Rattle.link.proofs.door.Bytes.{called-bytes}
+use Rattle.link.proofs.door.OneCall.{Calm}
+use Rattle.link.proofs.door.Right.{one-call, settled, door-right}
+
+-- the limits of the start are those of the unit
+limits-stay : (t : Track) (w : Reached t) → limitsIn t ≡ w .settings .limits
+limits-stay t w = ap (λ (s : Settings). s .limits) (settings-stay t w)
+
+-- what holds of what the line's onlooker has seen holds of what is seen at the door
+from-line : (P : Limits → Watch → Type 0) (t : Track) (w : Watch) (a : AtDoor t w) → P (limitsIn t) (watchOf (t .seen)) → P (a .reached .settings .limits) w
+from-line P t w a g = subst (P (a .reached .settings .limits)) (sym (door-right t w a)) (subst (λ c. P c (watchOf (t .seen))) (limits-stay t (a .reached)) g)
+
+-- ---- a block of ours
+
+few-enqs : (c : Limits) (p : Phase) (w e r n q : ℕ) → At c p w e r n q → onWay (oursAt p) ≡ true → e ≤ c .rty + 1
+few-enqs c Idle w e r n q g on = absurd (false≢true on)
+few-enqs c (WaitEot timer tries) w e r n q g on = omega arith
+few-enqs c (Draining tries) w e r n q g on = omega arith
+few-enqs c (WaitAck timer tries) w e r n q g on = omega arith
+few-enqs c (WaitLength timer) w e r n q g on = absurd (false≢true on)
+few-enqs c (Body timer a) w e r n q g on = absurd (false≢true on)
+few-enqs c (Silence timer fault) w e r n q g on = absurd (false≢true on)
+
+pub door-send-ends : SendEnds
+door-send-ends t w a =
+    let c = limitsIn t in
+    let inside = line-inside t (a .reached) in
+    let ends = send-ends c (lineTrack t) inside in
+    let g = always c (lineTrack t) inside in
+    let s = t .seen in
+    from-line SendWithin t w a
+    (record {
+      at-most = ends .at-most;
+      over-by-then = ends .over-by-then;
+      no-more-enqs = λ on. few-enqs c (t .link .line .phase) (s .waited) (s .enqs) (s .took) (length (s .bytes)) (s .silent) (g .counts) (sym (ap onWay (g .ours)) ∙ on);
+    })
+
+pub door-tries-are-enqs : TriesAreEnqs
+door-tries-are-enqs t w a =
+    subst (λ (v : Watch). Counts (t .link .line .phase) (v .enqs)) (sym (door-right t w a)) (tries-are-enqs (limitsIn t) (lineTrack t) (line-inside t (a .reached)))
+
+-- "EOT puts out the whole block", and nothing else leaves
+whole-alone :
+    (c : Limits) (l : Line) (rs block : List ℕ) (o : Out) (ks : List line.Call) → o ≡ out.Block → bytesOut block o ++ lineBytes c l rs block (settles o ks) ≡ block
+unfolding lineBytes
+whole-alone c l rs block o ks is = rw is (append-nil block)
+
+-- a call that is not refused makes its calls on the line
+unrefused : (x : Outcome) (ks : List line.Call) → accepted x ≡ true → unlessRefused x ks ≡ ks
+unrefused outcome.Done ks e = refl
+unrefused (outcome.Taken p) ks e = refl
+unrefused (outcome.Refused r) ks e = absurd (false≢true e)
+
+pub door-each-enq-its-block : EachEnqItsBlock
+unfolding lineBytes
+door-each-enq-its-block t w a e fits room o taken =
+    let u = t .link in
+    let c = limitsIn t in
+    let lent = lentRoom room (t .room) in
+    let block = blockBytes u lent in
+    let h = byteStep u EOT in
+    let goes = each-enq-its-block c (lineTrack t) (line-inside t (a .reached)) (sym (ap (λ (v : Watch). v .ours) (door-right t w a)) ∙ e) (line.byte EOT fits) refl in
+    called-bytes u lent o (byte EOT fits)
+    ∙ ap (lineBytes c (u .line) (u .received) block) (unrefused (answered t (made (byte EOT fits) room o) .answer .outcome) (onLine u lent (byte EOT fits)) taken)
+    ∙ whole-alone c (h .step .line) (h .received) block (h .step .out) (couriersIn u lent (byte EOT fits)) goes
+
+held-receiving : (h : Bool) (p : Phase) → Calm p h → busy (lineAt h p) ≡ true → oursAt p ≡ none → theirsAt p ≡ true
+held-receiving h Idle f z e = absurd (false≢true (sym f ∙ z))
+held-receiving h (WaitEot timer tries) f z e = absurd (false≢true (sym (ap onWay e)))
+held-receiving h (Draining tries) f z e = absurd (false≢true (sym (ap onWay e)))
+held-receiving h (WaitAck timer tries) f z e = absurd (false≢true (sym (ap onWay e)))
+held-receiving h (WaitLength timer) f z e = refl
+held-receiving h (Body timer a) f z e = refl
+held-receiving h (Silence timer fault) f z e = refl
+
+pub none-forgotten : NoneForgotten
+none-forgotten t w a =
+    let r = a .reached in
+    let g = always (limitsIn t) (lineTrack t) (line-inside t r) in
+    let l = t .link .line in
+    subst (λ (v : Watch). sendingOf (t .link) ≡ true → v .ours ≡ none → v .theirs ≡ true) (sym (door-right t w a))
+    (λ z e. g .theirs ∙ held-receiving (l .held) (l .phase) (settled t r) (sym (agrees t r .same) ∙ z) (sym (g .ours) ∙ e))
+
+-- ---- a block of the far end
+
+pub door-receive-ends : ReceiveEnds
+door-receive-ends t w a =
+    let inside = line-inside t (a .reached) in
+    let s = receive-ends (limitsIn t) (lineTrack t) inside in
+    from-line ReceiveWithin t w a
+    (record { at-most = s .at-most; over-by-then = s .over-by-then; not-late = nak-in-time (limitsIn t) (lineTrack t) inside .no-later })
+
+-- ---- one call more
+
+-- what is seen of it
+seen-next : (t : Track) (w : Watch) → AtDoor t w → (m : Made) → watches w (m .call) (answered t m) ≡ watchOf (next t m .seen)
+seen-next t w a m = let r = a .reached in ap (λ v. watches v (m .call) (answered t m)) (door-right t w a) ∙ one-call t r (settled t r) m .0
+
+pub receive-ends-by : ReceiveEndsBy
+receive-ends-by t w a m z =
+    let r = a .reached in
+    rw (seen-next t w a m, ← limits-stay t r) (one-call t r (settled t r) m .2 z)
+
+with-enq :
+    (c : Limits) (k : line.Call) (bs : List ℕ) (sending : Bool) (after : Watch) → OverBy c k bs sending after → sending ≡ true
+    → (bs ≡ ACK ∷ ENQ ∷ []) ⊎ (bs ≡ NAK ∷ ENQ ∷ [])
+with-enq c (line.byte b fits) bs sending after is e = inl (is ∙ ap (followed ACK) e)
+with-enq c line.tick bs sending after is e = inr (is .0 ∙ ap (followed NAK) e)
+with-enq c line.drained bs sending after is e = absurd is
+with-enq c line.ask bs sending after is e = absurd is
+with-enq c line.settle bs sending after is e = absurd is
+with-enq c line.withdraw bs sending after is e = absurd is
+
+pub held-follows : HeldFollows
+held-follows t w a m z e = with-enq _ (kind (m .call)) _ _ _ (receive-ends-by t w a m z) e
+
+pub door-send-ends-by : SendEndsBy
+door-send-ends-by t w a m on gone =
+    let r = a .reached in
+    let going : (v v' : Watch) (b : Bool) → v ≡ v' → onWay (v .ours) ≡ b → onWay (v' .ours) ≡ b = λ v v' b e is. sym (ap (λ (x : Watch). onWay (x .ours)) e) ∙ is in
+    rw (seen-next t w a m, ← limits-stay t r, door-right t w a)
+    (one-call t r (settled t r) m .3 (going _ _ _ (door-right t w a) on) (going _ _ _ (seen-next t w a m) gone))

@@ -1,0 +1,263 @@
+-- One call of the unit, seen at the door and inside: what leaves, and whether a message is being sent, tell the onlooker at the door what
+-- the calls of the line, its output and what it tells and remarks tell the onlooker of the line. Assumes nothing.
+use Prim.Native.Nat.{ℕ, _<_}
+use mathlib.Core.Path.{_≡_, refl, sym, ap, subst}
+use mathlib.Core.List.{List, [], _∷_, _++_}
+use mathlib.Core.Bool.{Bool, true, false, false≢true}
+use lib.Dec.{eqb}
+use Rattle.wire.proofs.Choice.{either}
+use Rattle.settings.specs.declared.limits.Limits.{Limits}
+use Rattle.line.specs.Codes.{ACK, bytesOut}
+use Rattle.line.specs.Line.{Heard, heard, lineAt, byteOf, tickOf, drainedOf, askOf, holding, settleIdle, busy, stays, sends, succeeds, again, rises, naks}
+use Rattle.line.specs.History as line
+use Rattle.line.specs.History.{none, enquired, left, oursAt, theirsAt, Seen, leaves, track}
+use Rattle.line.proofs.Invariant.{Kept}
+use Rattle.line.proofs.Cases.{ByByte, by-byte as line-byte, ByTick, by-tick as line-tick}
+use Rattle.line.specs.declared.phase.Phase.{Phase}
+use Rattle.line.specs.declared.phase.Phase.the-variants.{Idle, WaitEot, Draining, WaitAck, WaitLength, Body, Silence}
+use Rattle.line.specs.declared.step.Told.{Told}
+use Rattle.line.specs.declared.step.Told.the-variants as told
+use Rattle.line.specs.declared.step.Remark.{Remark}
+use Rattle.line.specs.declared.step.Remark.the-variants as remark
+use Rattle.line.specs.declared.step.Step.{Step}
+use Rattle.line.specs.declared.line.Line.{Line}
+use Rattle.link.specs.History.{settling, settles}
+use Rattle.link.specs.Door.{closes, isBlock, lineBytes, onWay, sees, watchOf, OverBy, Stops, sent, failed, gave-way}
+use Rattle.link.proofs.door.Courier.{calledFor}
+
+-- ---- a line at the end of a call
+
+-- a block is held only while the line is receiving
+abbrev pub Calm : Phase → Bool → Type 0
+Calm Idle h = h ≡ false
+Calm (WaitEot timer tries) h = h ≡ false
+Calm (Draining tries) h = h ≡ false
+Calm (WaitAck timer tries) h = h ≡ false
+Calm (WaitLength timer) h = Unit {0}
+Calm (Body timer a) h = Unit {0}
+Calm (Silence timer fault) h = Unit {0}
+
+abbrev pub Settled : Line → Type 0
+Settled l = Calm (l .phase) (l .held)
+
+-- ---- the rest of a call, once its first step has left h
+
+-- What the two onlookers see of it is the same; a block is then held only while the line is receiving; if ACK or NAK leaves, or a send is
+-- over, it is as it should be.
+abbrev pub Alike : Limits → Seen → line.Call → List ℕ → line.Track → Type 0
+Alike c s k bs t =
+    (sees (watchOf s) k bs (busy (t .line)) ≡ watchOf (t .seen))
+    × Settled (t .line)
+    × (closes bs ≡ true → OverBy c k bs (busy (t .line)) (watchOf (t .seen)))
+    × (onWay (s .ours) ≡ true → onWay (t .seen .ours) ≡ false → Stops c (watchOf s) k bs (busy (t .line)) (watchOf (t .seen)))
+
+abbrev Same : Limits → Seen → line.Call → List ℕ → List line.Call → Heard → Type 0
+Same c s k block ks h =
+    Alike c s k (bytesOut block (h .step .out) ++ lineBytes c (h .step .line) (h .received) block ks) (track c (leaves s k h) ks)
+
+-- what is known of each step of a line: what it keeps, and that an ACK that is waited for means sent
+pub record Known (c : Limits) (s : Seen) (k : line.Call) (h : Heard) : Type 0 where
+  pub kept : Kept c s k h
+  pub ack : s .ours ≡ left → line.comes ACK k ≡ true → h .step .told ≡ told.Sent
+
+-- by that, after a byte or a tick: with a next block to follow or not, and whatever bytes were received
+abbrev AfterByte : Limits → Seen → List ℕ → (b : ℕ) → b < 256 → Bool → Step → Type 0
+AfterByte c s block b fits more h =
+    (rs : List ℕ) → Known c s (line.byte b fits) (heard h rs)
+    → Same c s (line.byte b fits) block (settles (h .out) (calledFor (h .told) more)) (heard h rs)
+
+abbrev AfterTick : Limits → Seen → List ℕ → Bool → Step → Type 0
+AfterTick c s block more h =
+    (rs : List ℕ) → Known c s line.tick (heard h rs) → Same c s line.tick block (settling (calledFor (h .told) more)) (heard h rs)
+
+-- no code leaves that ends a receive; no send was under way; it is still
+never : {A : Type 0} → false ≡ true → A
+never e = absurd (false≢true e)
+
+still : {A : Type 0} → true ≡ true → true ≡ false → A
+still on gone = never (sym gone)
+
+-- what the onlooker has seen, of a line at this phase
+abbrev seenAt : Seen → Phase → Seen
+seenAt s p = record {
+  ours = oursAt p;
+  owed = s .owed;
+  waited = s .waited;
+  enqs = s .enqs;
+  theirs = theirsAt p;
+  took = s .took;
+  bytes = s .bytes;
+  silent = s .silent;
+}
+
+-- a whole block is no code
+whole : (P : List ℕ → Type 0) (block : List ℕ) → isBlock block ≡ true → ((a b c : ℕ) (bs : List ℕ) → P (a ∷ b ∷ c ∷ bs)) → P block
+whole P [] e long = never e
+whole P (a ∷ []) e long = never e
+whole P (a ∷ b ∷ []) e long = never e
+whole P (a ∷ b ∷ c ∷ bs) e long = long a b c bs
+
+-- what tells nothing does not tell that it was sent
+abbrev isSent : Told → Bool
+isSent told.Nothing = false
+isSent told.Sent = true
+isSent told.Failed = false
+isSent (told.Up n) = false
+
+module _ (c : Limits) (block : List ℕ) (s : Seen) where
+  abbrev seen : Phase → Seen
+  seen p = seenAt s p
+
+  -- "after the ACK or NAK": a receive ends, and a held block is enquired for
+  acked :
+      (h : Bool) (p : Phase) (more : Bool) (b : ℕ) (fits : b < 256) (n : ℕ) → oursAt p ≡ none → theirsAt p ≡ true
+      → AfterByte c (seen p) block b fits more (rises (lineAt h p) n)
+  unfolding settleIdle track lineBytes
+  acked true p more b fits n o t = rw (o, t) (λ rs k. (refl, refl, λ z. refl, never))
+  acked false p more b fits n o t = rw (o, t) (λ rs k. (refl, refl, λ z. refl, never))
+
+  naked :
+      (h : Bool) (p : Phase) (more : Bool) (why : Remark) → line.givesWay why ≡ false → oursAt p ≡ none → theirsAt p ≡ true
+      → AfterTick c (seen p) block more (naks (lineAt h p) why)
+  unfolding settleIdle track lineBytes
+  naked true p more why on o t = rw (o, t, on) (λ rs k. (refl, refl, λ z. (refl, k .kept .nak refl), never))
+  naked false p more why on o t = rw (o, t, on) (λ rs k. (refl, refl, λ z. (refl, k .kept .nak refl), never))
+
+  -- "ACK means sent; the message's next block goes out with ENQ in the same call."
+  acknowledged :
+      (timer tries : ℕ) (more : Bool) (b : ℕ) (fits : b < 256)
+      → AfterByte c (seen (WaitAck timer tries)) block b fits more (succeeds (lineAt false (WaitAck timer tries)))
+  unfolding holding settleIdle track lineBytes
+  acknowledged timer tries true b fits rs k = rw (k .kept .cause .1) (refl, refl, never, still)
+  acknowledged timer tries false b fits rs k = (refl, refl, never, λ on gone. sent (k .kept .cause .0) (k .kept .cause .1) refl refl)
+
+  -- "Any other byte .. : retry."
+  retries :
+      (timer tries : ℕ) (more : Bool) (b : ℕ) (fits : b < 256)
+      → AfterByte c (seen (WaitAck timer tries)) block b fits more (again (lineAt false (WaitAck timer tries)) tries)
+  unfolding track lineBytes
+  retries timer tries more b fits rs k =
+      let other : eqb b ACK ≡ false = either (eqb b ACK) (λ z. z ≡ false) (λ i. never (ap isSent (k .ack refl i))) (λ i. refl) in
+      rw other (refl, refl, never, still)
+
+  byte-steps :
+      (h : Bool) (p : Phase) (more : Bool) (b : ℕ) (fits : b < 256) → Calm p h → (oursAt p ≡ enquired → isBlock block ≡ true)
+      → ByByte (AfterByte c (seen p) block b fits more) c h p b
+  unfolding holding settleIdle track lineBytes
+  byte-steps h Idle more b fits f long = rw f (λ rs k. (refl, tt, never, never), λ rs k. (refl, refl, never, never))
+  byte-steps h (WaitEot timer tries) more b fits f long =
+      let l = lineAt h (WaitEot timer tries) in (
+        whole (λ x. AfterByte c (seen (WaitEot timer tries)) x b fits more (sends l tries)) block (long refl) (λ x y z xs rs k. (refl, f, never, still)),
+        λ rs k. (refl, tt, never, λ on gone. let why = k .kept .occasion in gave-way (why .0) (why .1) (why .2) refl refl),
+        λ n rs k. (refl, f, never, still),
+      )
+  byte-steps h (Draining tries) more b fits f long = λ rs k. (refl, f, never, still)
+  byte-steps h (WaitAck timer tries) more b fits f long =
+      rw f
+      (acknowledged timer tries more b fits, λ rs k. (refl, refl, never, λ on gone. failed (k .kept .cause) refl refl), retries timer tries more b fits)
+  byte-steps h (WaitLength timer) more b fits f long = (λ rs k. (refl, tt, never, never), λ rs k. (refl, tt, never, never))
+  byte-steps h (Body timer a) more b fits f long =
+      (λ x rs k. (refl, tt, never, never), acked h (Body timer a) more b fits (a .length) refl refl, λ x rs k. (refl, tt, never, never))
+  byte-steps h (Silence timer fault) more b fits f long = λ rs k. (refl, tt, never, never)
+
+  tick-steps : (h : Bool) (p : Phase) (more : Bool) → Calm p h → ByTick (AfterTick c (seen p) block more) c h p
+  unfolding settleIdle track lineBytes
+  tick-steps h Idle more f = rw f (λ rs k. (refl, refl, never, never))
+  tick-steps h (WaitEot timer tries) more f =
+      rw f (λ rs k. (refl, refl, never, λ on gone. failed (k .kept .cause) refl refl), λ rs k. (refl, refl, never, still), λ rs k. (refl, refl, never, still))
+  tick-steps h (Draining tries) more f = λ rs k. (refl, f, never, still)
+  tick-steps h (WaitAck timer tries) more f =
+      rw f (λ rs k. (refl, refl, never, λ on gone. failed (k .kept .cause) refl refl), λ rs k. (refl, refl, never, still), λ rs k. (refl, refl, never, still))
+  tick-steps h (WaitLength timer) more f = (naked h (WaitLength timer) more remark.NoLength refl refl refl, λ rs k. (refl, tt, never, never))
+  tick-steps h (Body timer a) more f = (naked h (Body timer a) more remark.Gap refl refl refl, λ rs k. (refl, tt, never, never))
+  tick-steps h (Silence timer fault) more f = (naked h (Silence timer fault) more (remark.Bad fault) refl refl refl, λ rs k. (refl, tt, never, never))
+
+  drained-step :
+      (rs : List ℕ) (h : Bool) (p : Phase) → Calm p h
+      → Same c (seen p) line.drained block (line.settle ∷ []) (heard (stays (drainedOf (lineAt h p))) rs)
+  unfolding settleIdle track lineBytes
+  drained-step rs h Idle f = rw f (refl, refl, never, never)
+  drained-step rs h (WaitEot timer tries) f = (refl, f, never, still)
+  drained-step rs h (Draining tries) f = (refl, f, never, still)
+  drained-step rs h (WaitAck timer tries) f = (refl, f, never, still)
+  drained-step rs h (WaitLength timer) f = (refl, tt, never, never)
+  drained-step rs h (Body timer a) f = (refl, tt, never, never)
+  drained-step rs h (Silence timer fault) f = (refl, tt, never, never)
+
+  -- a message that is accepted
+  ask-step :
+      (rs : List ℕ) (h : Bool) (p : Phase) → Calm p h
+      → Same c (seen p) line.ask block (line.settle ∷ []) (heard (stays (askOf (lineAt h p))) rs)
+  unfolding settleIdle holding track lineBytes
+  ask-step rs h Idle f = (refl, refl, never, never)
+  ask-step rs h (WaitEot timer tries) f = (refl, f, never, still)
+  ask-step rs h (Draining tries) f = (refl, f, never, still)
+  ask-step rs h (WaitAck timer tries) f = (refl, f, never, still)
+  ask-step rs h (WaitLength timer) f = (refl, tt, never, never)
+  ask-step rs h (Body timer a) f = (refl, tt, never, never)
+  ask-step rs h (Silence timer fault) f = (refl, tt, never, never)
+
+  -- a call in which the line has no part
+  no-step : (rs : List ℕ) (h : Bool) (p : Phase) → Calm p h → Alike c (seen p) line.ask [] (record { line = lineAt h p; received = rs; seen = seen p })
+  no-step rs h Idle f = (refl, f, never, never)
+  no-step rs h (WaitEot timer tries) f = (refl, f, never, still)
+  no-step rs h (Draining tries) f = (refl, f, never, still)
+  no-step rs h (WaitAck timer tries) f = (refl, f, never, still)
+  no-step rs h (WaitLength timer) f = (refl, tt, never, never)
+  no-step rs h (Body timer a) f = (refl, tt, never, never)
+  no-step rs h (Silence timer fault) f = (refl, tt, never, never)
+
+-- ---- what these calls of a line put out and leave is seen alike
+
+abbrev pub Through : Limits → Line → List ℕ → List ℕ → Seen → line.Call → List line.Call → Type 0
+Through c l rs block s k ks = Alike c s k (lineBytes c l rs block ks) (track c (record { line = l; received = rs; seen = s }) ks)
+
+module _
+    (c : Limits) (l : Line) (rs block : List ℕ) (s : Seen) (ours : s .ours ≡ oursAt (l .phase)) (theirs : s .theirs ≡ theirsAt (l .phase)) (calm : Settled l)
+  where
+    -- the onlooker of a line has seen its phase
+    as-seen : (P : Seen → Type 0) → P (seenAt s (l .phase)) → P s
+    as-seen P g =
+        subst P
+        (λ i. record {
+          ours = sym ours i;
+          owed = s .owed;
+          waited = s .waited;
+          enqs = s .enqs;
+          theirs = sym theirs i;
+          took = s .took;
+          bytes = s .bytes;
+          silent = s .silent;
+        }) g
+
+    abbrev Knows : line.Call → Seen → Type 0
+    Knows k v = Known c v k (line.called c l rs k)
+
+    pub by-byte :
+        (more : Bool) (b : ℕ) (fits : b < 256) → (oursAt (l .phase) ≡ enquired → isBlock block ≡ true) → Knows (line.byte b fits) s
+        → let h = byteOf c l b rs in
+        Through c l rs block s (line.byte b fits) (line.byte b fits ∷ settles (h .step .out) (calledFor (h .step .told) more))
+    unfolding track lineBytes
+    by-byte more b fits long =
+        let h = byteOf c l b rs in
+        as-seen
+        (λ v. Knows (line.byte b fits) v → Through c l rs block v (line.byte b fits) (line.byte b fits ∷ settles (h .step .out) (calledFor (h .step .told) more)))
+        (line-byte (AfterByte c (seenAt s (l .phase)) block b fits more) c (l .held) (l .phase) b rs (byte-steps c block s (l .held) (l .phase) more b fits calm long) (h .received))
+
+    pub by-tick : (more : Bool) → Knows line.tick s → Through c l rs block s line.tick (line.tick ∷ settling (calledFor (tickOf c l .told) more))
+    unfolding track lineBytes
+    by-tick more =
+        as-seen (λ v. Knows line.tick v → Through c l rs block v line.tick (line.tick ∷ settling (calledFor (tickOf c l .told) more)))
+        (line-tick (AfterTick c (seenAt s (l .phase)) block more) c (l .held) (l .phase) (tick-steps c block s (l .held) (l .phase) more calm) rs)
+
+    pub by-drained : Through c l rs block s line.drained (line.drained ∷ line.settle ∷ [])
+    unfolding track lineBytes
+    by-drained = as-seen (λ v. Through c l rs block v line.drained (line.drained ∷ line.settle ∷ [])) (drained-step c block s rs (l .held) (l .phase) calm)
+
+    pub by-ask : Through c l rs block s line.ask (line.ask ∷ line.settle ∷ [])
+    unfolding track lineBytes
+    by-ask = as-seen (λ v. Through c l rs block v line.ask (line.ask ∷ line.settle ∷ [])) (ask-step c block s rs (l .held) (l .phase) calm)
+
+    pub by-none : Through c l rs block s line.ask []
+    unfolding track lineBytes
+    by-none = as-seen (λ v. Through c l rs block v line.ask []) (no-step c block s rs (l .held) (l .phase) calm)

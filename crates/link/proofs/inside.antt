@@ -1,0 +1,6 @@
+pub mod Line
+pub mod Transactions
+pub mod Reached
+pub mod Places
+pub mod Agrees
+pub mod Range

@@ -1,0 +1,76 @@
+-- The transactions inside the unit, and each of their places, can be reached by calls and events of their own. Assumes nothing.
+use Prim.Native.Nat.{ℕ, _<_}
+use mathlib.Core.Path.{_≡_, refl, sym, ap, subst, _∙_}
+use mathlib.Core.List.{List}
+use Rattle.exchange.specs.History as exchange
+use Rattle.exchange.specs.Theorems.{Reached as ExchangeReached}
+use Rattle.exchange.specs.Watching.{OwnAt, IncomingAt}
+use Rattle.exchange.proofs.AnyRoom.{track-alike}
+use Rattle.exchange.proofs.Runs.{Sound, reached-more, reached-fresh, sound-reached, three-equal}
+use Rattle.exchange.proofs.Watching.{own-all, incoming-all, own-at-start, incoming-at-start}
+use Rattle.link.specs.History.{Made, Track, exchangeTrack, termsIn, onExchangeIn, lentRoom, next}
+use Rattle.link.specs.Inside.{Always, InSomeRoom, ExchangeInside, Watched, PlacesInside}
+use Rattle.link.specs.declared.Settings.{Settings}
+use Rattle.link.proofs.inside.Line.{settings-kept}
+use Rattle.link.proofs.inside.Transactions.{exchange-goes}
+use Rattle.link.proofs.inside.Reached.{by-calls}
+
+-- ---- one call
+
+module _ (t : Track) (m : Made) where
+  abbrev pub lent : List ℕ
+  lent = lentRoom (m .room) (t .room)
+
+  -- what the transactions are after it
+  pub goes : exchange.track (termsIn t) (exchangeTrack t lent) (onExchangeIn t m) .exchange ≡ next t m .link .exchange
+  goes = exchange-goes (t .link) lent (m .out) (m .call) (t .joined) .exchange
+
+  pub same-terms : termsIn (next t m) ≡ termsIn t
+  same-terms = ap (λ (s : Settings). s .terms) (settings-kept (t .link) lent (m .out) (m .call))
+
+  module _ (room : List ℕ) where
+    -- their track after it, on any room
+    unfoldable pub after : exchange.Track
+    after = exchange.track (termsIn t) (exchangeTrack t room) (onExchangeIn t m)
+
+    after-lent : (after .exchange ≡ next t m .link .exchange) × (after .seen ≡ next t m .joined)
+    unfolding after
+    after-lent =
+        let same = track-alike (termsIn t) (exchangeTrack t room) (exchangeTrack t lent) (onExchangeIn t m) refl refl in
+        (same .0 ∙ goes, same .1)
+
+    pub reached-after : ExchangeReached (termsIn t) (exchangeTrack t room) → ExchangeReached (termsIn (next t m)) (exchangeTrack (next t m) (after .room))
+    unfolding after
+    reached-after w =
+        subst (λ c. ExchangeReached c (exchangeTrack (next t m) (after .room))) (sym same-terms)
+        (subst (ExchangeReached (termsIn t)) (λ i. record { exchange = after-lent .0 i; room = after .room; seen = after-lent .1 i })
+        (reached-more (termsIn t) (exchangeTrack t room) w (onExchangeIn t m)))
+
+-- ---- any calls
+
+pub exchange-inside : ExchangeInside
+exchange-inside t w =
+    by-calls InSomeRoom (λ v r m g. record { room = after v m (g .room) .room; reached = reached-after v m (g .room) (g .reached) }) t w
+    (record { room = w .room; reached = reached-fresh (w .settings .terms) (w .setup .last) (w .room) (w .whole) })
+
+pub sound-inside : Always (λ t. Sound (t .link .exchange))
+sound-inside t w = let x = exchange-inside t w in sound-reached (termsIn t) (exchangeTrack t (x .room)) (x .reached)
+
+-- ---- the places
+
+module _ (t : Track) (m : Made) (g : Watched t) (s : Sound (t .link .exchange)) (p : ℕ) (k : p < 4) where
+  own-next : OwnAt (termsIn (next t m)) p (next t m .link .exchange) (next t m .own p)
+  own-next =
+      three-equal (λ d x z. OwnAt d p x z) (sym (same-terms t m)) (goes t m) refl
+      (own-all (termsIn t) p k (exchangeTrack t (lent t m)) (t .own p) (onExchangeIn t m) s (g .own p k))
+
+  incoming-next : IncomingAt (termsIn (next t m)) p (next t m .link .exchange) (next t m .incoming p)
+  incoming-next =
+      three-equal (λ d x z. IncomingAt d p x z) (sym (same-terms t m)) (goes t m) refl
+      (incoming-all (termsIn t) p k (exchangeTrack t (lent t m)) (t .incoming p) (onExchangeIn t m) s (g .incoming p k))
+
+pub places-inside : PlacesInside
+places-inside t w =
+    by-calls Watched
+    (λ v r m g. let s = sound-inside v r in record { own = own-next v m g s; incoming = incoming-next v m g s })
+    t w (record { own = λ p k. own-at-start (w .settings .terms) p (w .setup .last); incoming = λ p k. incoming-at-start (w .settings .terms) p (w .setup .last) })

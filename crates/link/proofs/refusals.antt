@@ -1,0 +1,5 @@
+pub mod Ranges
+pub mod Rows
+pub mod Start
+pub mod Room
+pub mod Writes

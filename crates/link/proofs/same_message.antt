@@ -1,0 +1,9 @@
+pub mod Calls
+pub mod Hears
+pub mod Blocks
+pub mod Carries
+pub mod Stands
+pub mod Asks
+pub mod Delivers
+pub mod Replies
+pub mod Returns
