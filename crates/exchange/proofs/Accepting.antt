@@ -2,7 +2,7 @@
 use Prim.Native.Nat.{ℕ, _<_}
 use mathlib.Core.Path.{_≡_, refl, sym, ap, subst, _∙_}
 use mathlib.Core.Bool.{Bool, true, false, not, _&&_, false≢true, true≢false}
-use mathlib.Core.List.{List, []}
+use mathlib.Core.List.{List}
 use mathlib.Core.Logic.{_≢_}
 use native.Mathlib.Omega.{arith}
 use lib.Dec.{ltb}
@@ -186,7 +186,7 @@ reply-there x p f d room k = record {
 
 pub accepted-replies : AcceptedReplies
 unfolding refused refusedBy replyAccepted notReady
-accepted-replies x p f d room k =
+accepted-replies c x p f d room k =
     by-reply x room (λ a. a .answer .asked ≡ Taken k → Replied x p f d room k (a .answer .exchange) (a .room))
     (λ r e. absurd (not-taken e)) p f d
     (λ u ready new e.
@@ -253,10 +253,10 @@ incoming-released x p t = record {
 pub accepted-releases : AcceptedReleases
 unfolding refused refusedBy
 accepted-releases = record {
-  own = λ x p k.
-      by-free-own x [] (λ a. a .answer .asked ≡ Taken k → OwnReleased x p k (a .answer .exchange)) (λ r e. absurd (not-taken e)) p
+  own = λ c x p room k.
+      by-free-own x room (λ a. a .answer .asked ≡ Taken k → OwnReleased x p k (a .answer .exchange)) (λ r e. absurd (not-taken e)) p
       (λ t e. subst (λ (j : ℕ). OwnReleased x p j (putOwn x p (ownReleased (ownPlace x p)))) (ap takenAt e) (own-released x p t));
-  incoming = λ x p k.
-      by-free-incoming x [] (λ a. a .answer .asked ≡ Taken k → IncomingReleased x p k (a .answer .exchange)) (λ r e. absurd (not-taken e)) p
+  incoming = λ c x p room k.
+      by-free-incoming x room (λ a. a .answer .asked ≡ Taken k → IncomingReleased x p k (a .answer .exchange)) (λ r e. absurd (not-taken e)) p
       (λ t e. subst (λ (j : ℕ). IncomingReleased x p j (putIncoming x p (incomingReleased (incomingPlace x p)))) (ap takenAt e) (incoming-released x p t));
 }

@@ -19,7 +19,7 @@ use Rattle.place.specs.declared.IncomingStage.the-variants as arrival
 use Rattle.exchange.specs.Exchange.{ownPlace, incomingPlace}
 use Rattle.exchange.specs.Request as request
 use Rattle.exchange.specs.History as exchange
-use Rattle.exchange.specs.Releases.{Side, releases, frees, isRelease, asksRelease, VerdictStays, SameMessage, MessageStays, EndStays}
+use Rattle.exchange.specs.Releases.{Side, releases, frees, isRelease, asksRelease, LentExactly, VerdictStays, SameMessage, MessageStays, EndStays}
 use Rattle.exchange.proofs.OneCall.{own-changed, incoming-changed}
 
 -- ---- a call that is no release
@@ -36,6 +36,14 @@ never-frees z p exchange.tick e = refl
 never-frees z p exchange.acknowledged e = refl
 never-frees z p exchange.failed e = refl
 never-frees z p (exchange.request r) e = never r z p e
+
+-- ---- a call that lends
+
+pub lent-exactly : LentExactly
+lent-exactly (request.primary q d) = refl
+lent-exactly (request.reply q f d) = refl
+lent-exactly (request.free-own q) = refl
+lent-exactly (request.free-incoming q) = refl
 
 -- ---- events that change nothing
 

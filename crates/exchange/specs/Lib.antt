@@ -12,6 +12,7 @@ pub mod Refusals
 pub mod Table
 pub mod History
 pub mod BeingSent
+pub mod SavedHeader
 pub mod Releases
 pub mod Theorems
 pub mod Watching

@@ -203,8 +203,8 @@ pub record Opened (c : Terms) (x : Exchange) (q : Primary) (d room : List ℕ) (
 
 abbrev pub AcceptedOpens : Type 0
 AcceptedOpens =
-    (c : Terms) (x : Exchange) (q : Primary) (d room : List ℕ) → Fours x → (p : ℕ) → openOf c x q d room .answer .asked ≡ Taken p
-    → Opened c x q d room p (openOf c x q d room .answer .exchange) (openOf c x q d room .room)
+    (c : Terms) (x : Exchange) (q : Primary) (d room : List ℕ) → Fours x → (p : ℕ) → answerOf c x (primary q d) room .answer .asked ≡ Taken p
+    → Opened c x q d room p (answerOf c x (primary q d) room .answer .exchange) (answerOf c x (primary q d) room .room)
 
 -- ---- a reply that is accepted
 
@@ -239,8 +239,8 @@ pub record Replied (x : Exchange) (p f : ℕ) (d room : List ℕ) (k : ℕ) (y :
 
 abbrev pub AcceptedReplies : Type 0
 AcceptedReplies =
-    (x : Exchange) (p f : ℕ) (d room : List ℕ) (k : ℕ) → replyOf x p f d room .answer .asked ≡ Taken k
-    → Replied x p f d room k (replyOf x p f d room .answer .exchange) (replyOf x p f d room .room)
+    (c : Terms) (x : Exchange) (p f : ℕ) (d room : List ℕ) (k : ℕ) → answerOf c x (reply p f d) room .answer .asked ≡ Taken k
+    → Replied x p f d room k (answerOf c x (reply p f d) room .answer .exchange) (answerOf c x (reply p f d) room .room)
 
 -- ---- a release that is accepted
 
@@ -264,5 +264,9 @@ pub record IncomingReleased (x : Exchange) (p k : ℕ) (y : Exchange) : Type 0 w
   pub sending : y .sending ≡ x .sending
 
 pub record AcceptedReleases : Type 0 where
-  pub own : (x : Exchange) (p k : ℕ) → releaseOwn x p .asked ≡ Taken k → OwnReleased x p k (releaseOwn x p .exchange)
-  pub incoming : (x : Exchange) (p k : ℕ) → releaseIncoming x p .asked ≡ Taken k → IncomingReleased x p k (releaseIncoming x p .exchange)
+  pub own :
+      (c : Terms) (x : Exchange) (p : ℕ) (room : List ℕ) (k : ℕ) → answerOf c x (free-own p) room .answer .asked ≡ Taken k
+      → OwnReleased x p k (answerOf c x (free-own p) room .answer .exchange)
+  pub incoming :
+      (c : Terms) (x : Exchange) (p : ℕ) (room : List ℕ) (k : ℕ) → answerOf c x (free-incoming p) room .answer .asked ≡ Taken k
+      → IncomingReleased x p k (answerOf c x (free-incoming p) room .answer .exchange)

@@ -2,7 +2,7 @@
 -- `proofs/Releases.antt`.
 use Prim.Native.Nat.{ℕ, _<_}
 use mathlib.Core.Path.{_≡_}
-use mathlib.Core.Bool.{Bool, true, false}
+use mathlib.Core.Bool.{Bool, true, false, not}
 use mathlib.Core.List.{List}
 use lib.Dec.{eqb}
 use lib.ListN.{length}
@@ -13,7 +13,7 @@ use Rattle.place.specs.IncomingHistory.{shows}
 use Rattle.place.specs.IncomingTheorems.{isComplete}
 use Rattle.place.specs.declared.Incoming.{Incoming}
 use Rattle.exchange.specs.Exchange.{ownPlace, incomingPlace}
-use Rattle.exchange.specs.Request.{Request, primary, reply, free-own, free-incoming}
+use Rattle.exchange.specs.Request.{Request, primary, reply, free-own, free-incoming, lends}
 use Rattle.exchange.specs.History.{Call, block, tick, acknowledged, failed, request, called}
 use Rattle.exchange.specs.declared.Exchange.{Exchange}
 
@@ -52,6 +52,10 @@ asksRelease tick = false
 asksRelease acknowledged = false
 asksRelease failed = false
 asksRelease (request r) = isRelease r
+
+-- a message is lent by every request but a release: "Releasing is asked for each place by itself." and brings no data
+abbrev pub LentExactly : Type 0
+LentExactly = (r : Request) → lends r ≡ not (isRelease r)
 
 -- ---- what stays
 

@@ -1,7 +1,7 @@
 -- The transaction numbers over every list of the unit's calls from a start, refused ones among them (`specs/History.antt`): the state
 -- keeps "the last given" and "that of the latest own transaction to get a verdict" (01, "Messages"). The onlooker is that of
 -- exchange/specs/Numbers.antt, at the unit's door: it goes by what is called and answered, and by what a user reads of the own places
--- before and after each call. Each proof is in `proofs/Numbering.antt`.
+-- before and after each call. Each proof is in `proofs/numbers/`.
 use Prim.Native.Nat.{ℕ, _≤_}
 use mathlib.Core.List.{List, [], _∷_}
 use Rattle.exchange.specs.Request.{Request}

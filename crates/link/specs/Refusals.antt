@@ -23,9 +23,10 @@ use Rattle.place.specs.declared.Incoming.{Incoming}
 use Rattle.exchange.specs.Exchange.{ownPlace, incomingPlace}
 use Rattle.exchange.specs.Flags.{noFlags}
 use Rattle.exchange.specs.Range.{sendingInRange, SendingFits}
-use Rattle.exchange.specs.Request.{lends as lendsTo}
+use Rattle.exchange.specs.Request.{Request, primary, reply, free-own, free-incoming, lends as lendsTo}
+use Rattle.exchange.specs.Releases.{isRelease}
 use Rattle.exchange.specs.Rules.{Fours, LowestAt, OfReply, OfMessage, ReplyHere, MessageHere, AlikeAt, AlikeHere, FreeAt, bytesBefore}
-use Rattle.exchange.specs.Refusals.{RequestRuled, FillsBy}
+use Rattle.exchange.specs.Refusals.{OwnFree, RequestRuled, FillsBy}
 use Rattle.exchange.specs.declared.Sending.{Sending}
 use Rattle.exchange.specs.declared.Exchange.{Exchange}
 use Rattle.link.specs.Answer.{outcomeNumber, noteNumber}
@@ -38,6 +39,7 @@ use Rattle.link.specs.declared.Setup.{Setup}
 use Rattle.link.specs.declared.Settings.{Settings}
 use Rattle.link.specs.declared.Refusal.{Refusal}
 use Rattle.link.specs.declared.Refusal.the-variants as refusal
+use Rattle.link.specs.declared.Outcome.{Outcome}
 use Rattle.link.specs.declared.Outcome.the-variants as outcome
 use Rattle.link.specs.declared.Answer.{Answer}
 use Rattle.link.specs.declared.Link.{Link}
@@ -145,6 +147,48 @@ pub data Ruled (u : Link) (room o : List ℕ) (k : Call) : ℕ → Type 0 where
 abbrev pub RefusalTable : Type 0
 RefusalTable =
     (u : Link) (room o : List ℕ) (k : Call) → Fours (u .exchange) → (n : ℕ) → (outcomeNumber (cameTo u room o k) ≡ n) ↔ Ruled u room o k n
+
+-- ---- the place that is answered by a call that goes through
+
+-- a primary is about the lowest free own place, any other request about the place that it asks for
+abbrev pub About : Exchange → Request → ℕ → Type 0
+About x (primary q d) p = LowestAt (OwnFree x) p
+About x (reply k f d) p = p ≡ k
+About x (free-own k) p = p ≡ k
+About x (free-incoming k) p = p ≡ k
+
+abbrev pub AboutPlace : Exchange → Request → Outcome → Type 0
+AboutPlace x r outcome.Done = ⊥
+AboutPlace x r (outcome.Taken p) = About x r p
+AboutPlace x r (outcome.Refused n) = Unit {0}
+
+abbrev pub AboutNone : Outcome → Type 0
+AboutNone outcome.Done = Unit {0}
+AboutNone (outcome.Taken p) = ⊥
+AboutNone (outcome.Refused n) = Unit {0}
+
+abbrev pub AnswersAs : Exchange → Call → Outcome → Type 0
+AnswersAs x (byte b fits) k = AboutNone k
+AnswersAs x tick k = AboutNone k
+AnswersAs x drained k = AboutNone k
+AnswersAs x (request r) k = AboutPlace x r k
+
+-- A request that goes through answers the place that it is about, any other call that goes through answers none.
+abbrev pub PlaceAnswered : Type 0
+PlaceAnswered = (u : Link) (room o : List ℕ) (k : Call) → Fours (u .exchange) → AnswersAs (u .exchange) k (cameTo u room o k)
+
+-- ---- a release
+
+-- all but the transactions is as it was
+pub record AllElse (u y : Link) : Type 0 where
+  pub settings : y .settings ≡ u .settings
+  pub line : y .line ≡ u .line
+  pub received : y .received ≡ u .received
+  pub block : y .block ≡ u .block
+
+-- The line has no part in a release: nor has the block that is on its way.
+abbrev pub ReleaseApart : Type 0
+ReleaseApart = (u : Link) (room o : List ℕ) (r : Request) → isRelease r ≡ true → AllElse u (called u room o (request r) .answer .link)
 
 -- ---- the start: 4
 

@@ -10,14 +10,15 @@ use mathlib.Core.Logic.{_↔_, _⊎_}
 use lib.ListN.{length}
 use Rattle.header.specs.declared.header.Header.{Header}
 use Rattle.place.specs.Message.{Continues, Whole, noHeader, firstOf}
-use Rattle.place.specs.Own.{ownStanding}
+use Rattle.place.specs.Own.{noReply, ownStanding}
 use Rattle.place.specs.OwnHistory as own
-use Rattle.place.specs.OwnTheorems.{Earned, verdictLimit, silenceLimit}
+use Rattle.place.specs.OwnTheorems.{Asked, Earned, ReplyAsKept, verdictLimit, silenceLimit}
 use Rattle.place.specs.IncomingTheorems.{Breaks}
 use Rattle.place.specs.declared.Verdict.{Verdict}
 use Rattle.place.specs.declared.Verdict.the-variants.{Answered}
 use Rattle.place.specs.declared.Standing.{Standing}
-use Rattle.place.specs.declared.Standing.the-variants.{Free, Given}
+use Rattle.place.specs.declared.Reply.{Reply}
+use Rattle.place.specs.declared.Standing.the-variants.{Free, Open, Given}
 use Rattle.exchange.specs.Exchange.{ownPlace, incomingPlace}
 use Rattle.exchange.specs.Reading.{stageBy, hasEnded}
 use Rattle.exchange.specs.Rules.{OfMessage}
@@ -84,9 +85,28 @@ FreeExactly = AtEach (λ t p. (standing t p ≡ Free) ↔ (t .own p .request ≡
 abbrev pub ExchangeBack : Type 0
 ExchangeBack = (t : Track) → ReachedBack t → ExchangeReached (termsIn t) (exchangeTrack t (t .room))
 
+-- the request, and what is kept of its reply
+abbrev pub requestIn : OwnReading → Header
+requestIn reading.NoPlace = noHeader
+requestIn (reading.Place h s r) = h
+
+abbrev pub replyIn : OwnReading → Reply
+replyIn reading.NoPlace = noReply
+replyIn (reading.Place h s r) = r
+
+-- The header read of a place in use is that of the request which was accepted for it.
+abbrev pub RequestRead : Type 0
+RequestRead = AtEach (λ t p. (standing t p ≡ Free → ⊥) → requestIn (ownOf (t .link) p) ≡ t .own p .header)
+
+-- A reply that is arriving is read as far as it is kept, by its first block.
+abbrev pub ArrivingRead : Type 0
+ArrivingRead =
+    AtEach (λ t p. Asked (t .own p) → standing t p ≡ Open → 1 ≤ length (t .own p .kept) → ReplyAsKept (t .own p) (replyIn (ownOf (t .link) p)))
+
 -- "After 2, 3 or 4 .. its area begins with the data of the kept blocks joined": so many bytes as these blocks had, and a user reads
--- them, while the room comes back
+-- them, while the room comes back; its W-bit, stream and function are those of the first of these blocks
 pub record ReplyReads (t : Track) (p : ℕ) : Type 0 where
+  pub as-kept : ReplyAsKept (t .own p) (replyIn (ownOf (t .link) p))
   pub bytes : replyData (t .link) (t .room) p ≡ t .joined .replies p
   pub size : length (t .joined .replies p) ≡ t .own p .bytes
 

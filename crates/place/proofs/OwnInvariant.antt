@@ -21,7 +21,7 @@ use Rattle.place.specs.Message.{Routed, Continues, firstOf}
 use Rattle.place.specs.Own.{primaryOf, noReply, ended, ownKept, acknowledged, awaitedBy, awaitTick, replyingBy, replyTick, awaits, continuesReply, ownTakes, verdictOf, follows, repliedBy, replied, ownOffered}
 use Rattle.place.specs.OwnHistory.{Event, claim, sent, failed, tick, release, block, passed, answerBy, answerTo, Request, none, underway, lost, Seen, asked, acked, gaveUp, answered, Track, next}
 use Rattle.place.specs.OwnHistory as onlooker
-use Rattle.place.specs.OwnTheorems.{Asked, Complete, Earned, BeginsReply}
+use Rattle.place.specs.OwnTheorems.{Asked, Complete, Earned, ReplyAsKept, BeginsReply}
 use Rattle.place.proofs.Arrivals as core
 use Rattle.place.proofs.Arrivals.{Arrived, Arrives}
 use Rattle.place.proofs.Judging.{reply-exactly}
@@ -75,10 +75,11 @@ onReply NoReply = false
 onReply SendFailed = false
 
 -- the verdict is earned
-pub record Ended (c : Terms) (s : Seen) (v : Verdict) (r : Reply) : Type 0 where
+pub record Ended (c : Terms) (h : List ℕ) (s : Seen) (v : Verdict) (r : Reply) : Type 0 where
+  pub header : s .header ≡ headerOf h
   pub earned : Earned c s v
   pub room : r .length ≤ messageLimit
-  pub counted : onReply v ≡ true → r .length ≡ s .bytes
+  pub shown : onReply v ≡ true → ReplyAsKept s r
 
 -- at each stage, of the place with header bytes h and of what the onlooker has seen
 abbrev pub At : Terms → OwnStage → List ℕ → Seen → Type 0
@@ -86,7 +87,7 @@ At c Free h s = s .request ≡ none
 At c Sending h s = Leaves h s
 At c (Awaiting timer) h s = Waits c h s timer
 At c (Replying a) h s = Replies c h s a
-At c (Done v r) h s = Ended c s v r
+At c (Done v r) h s = Ended c h s v r
 
 abbrev pub Good : Terms → Track → Type 0
 Good c t = At c (t .own .stage) (t .own .header) (t .seen)
@@ -159,11 +160,12 @@ met :
 unfolding replied ended
 met c o s b size j e =
     let a : Asked (answered onlooker.kept s b size) = record { acked = j .asked .acked; wanted = j .asked .wanted } in
-    let broken : Ended c (answered onlooker.spoilt s b size) Broken noReply =
+    let broken : Ended c (o .header) (answered onlooker.spoilt s b size) Broken noReply =
     record {
+      header = j .header;
       earned = (record { acked = j .asked .acked; wanted = j .asked .wanted }, j .joins .not-yet, inl refl);
       room = omega arith;
-      counted = never;
+      shown = never;
     } in
     rw e
     (core.by-join c (arrivedOf s) b size (j .joins) (λ f. Good c (meet (repliedBy o b f) (answered (answerBy f) s b size)))
@@ -171,9 +173,10 @@ met c o s b size j e =
     broken
     (λ whole fits.
     record {
+      header = j .header;
       earned = verdict-earned c o (answered onlooker.kept s b size) b (j .header) (j .joins .same) (record { asked = a; whole = whole });
       room = fits;
-      counted = λ z. refl;
+      shown = λ z. record { w = j .joins .same .w; stream = j .joins .same .stream; function = j .joins .same .function; length = refl };
     })
     (λ arrives some.
     record {
@@ -356,8 +359,8 @@ sending-step c h s sent g =
       since = refl;
       within = omega arith;
     })
-    (λ w. record { earned = (refl, rw (g .header) w); room = omega arith; counted = never }))
-sending-step c h s failed g = rw (g .request) (record { earned = refl; room = omega arith; counted = never })
+    (λ w. record { header = g .header; earned = (refl, rw (g .header) w); room = omega arith; shown = never }))
+sending-step c h s failed g = rw (g .request) (record { header = g .header; earned = refl; room = omega arith; shown = never })
 sending-step c h s tick g = record { request = g .request; header = g .header }
 sending-step c h s release g = g
 sending-step c h s (block b size q) g = g
@@ -370,7 +373,7 @@ awaiting-step c h timer s failed g = rw (gave-up-over (s .request) s (over-asked
 awaiting-step c h timer s tick g =
     let a = asked-later s (g .asked) in
     by-timer _ timer (λ t. Good c (meet (awaitedBy (placeAt h (Awaiting timer)) t) (later s)))
-    (λ out. record { earned = (a, g .kept, g .unspoilt, omega (arith, g .since)); room = omega arith; counted = never })
+    (λ out. record { header = g .header; earned = (a, g .kept, g .unspoilt, omega (arith, g .since)); room = omega arith; shown = never })
     (λ on. record {
       asked = a;
       header = g .header;
@@ -391,18 +394,18 @@ replying-step c h a s failed g = rw (gave-up-over (s .request) s (over-asked s (
 replying-step c h a s tick g =
     let w = asked-later s (g .asked) in
     core.by-tick c a (arrivedOf s) (g .arrives) (λ t. Good c (meet (replyingBy (placeAt h (Replying a)) t) (later s)))
-    (λ out. record { earned = (w, core.not-whole (g .arrives), inr (g .arrives .begun .some, out)); room = omega arith; counted = never })
+    (λ out. record { header = g .header; earned = (w, core.not-whole (g .arrives), inr (g .arrives .begun .some, out)); room = omega arith; shown = never })
     (λ on. record { asked = w; header = g .header; system = g .system; arrives = on; late = omega (arith, g .late) })
 replying-step c h a s release g = g
 replying-step c h a s (block b size q) g =
     offered c (placeAt h (Replying a)) s b size g (g .arrives .size) (λ t. next-joins c h s a b g q t)
 
-done-step : (c : Terms) (h : List ℕ) (v : Verdict) (r : Reply) (s : Seen) (e : Event c) → Ended c s v r → After c h (Done v r) s e
+done-step : (c : Terms) (h : List ℕ) (v : Verdict) (r : Reply) (s : Seen) (e : Event c) → Ended c h s v r → After c h (Done v r) s e
 unfolding ownOffered answerTo
 done-step c h v r s (claim x) g = rw (asked-over (s .request) s (headerOf x) (over c s v (g .earned))) g
 done-step c h v r s sent g = rw (acked-over (s .request) s (over c s v (g .earned))) g
 done-step c h v r s failed g = rw (gave-up-over (s .request) s (over c s v (g .earned))) g
-done-step c h v r s tick g = record { earned = earned-later c s v (g .earned); room = g .room; counted = g .counted }
+done-step c h v r s tick g = record { header = g .header; earned = earned-later c s v (g .earned); room = g .room; shown = λ z. let k = g .shown z in record { w = k .w; stream = k .stream; function = k .function; length = k .length } }
 done-step c h v r s release g = refl
 done-step c h v r s (block b size q) g = g
 

@@ -1,7 +1,7 @@
 -- Each verdict exactly when it is earned, and one verdict until it is released. Assumes nothing.
 use Prim.Native.Nat.{ℕ, _+_, _≤_, _<_}
 use mathlib.Core.Path.{_≡_, refl, sym, ap, subst, _∙_}
-use mathlib.Core.Bool.{Bool, true, false, cond, false≢true}
+use mathlib.Core.Bool.{Bool, true, false, cond, false≢true, true≢false}
 use mathlib.Core.List.{List}
 use mathlib.Core.Logic.{_↔_, ⊎-elim}
 use native.Mathlib.Omega.{arith}
@@ -9,21 +9,23 @@ use lib.Dec.{eqb, ltb}
 use lib.ListN.{length}
 use borrow.Author.Tests.{eqb-true, eq-eqb, ne-eqb, lt-ltb, le-ltb}
 use Rattle.wire.proofs.Choice.{either, chosen}
+use Rattle.header.specs.Header.{headerOf}
 use Rattle.header.specs.declared.header.Header.{Header}
 use Rattle.settings.specs.declared.terms.Terms.{Terms}
 use Rattle.place.specs.Message.{firstOf, Whole}
-use Rattle.place.specs.Own.{standingAt, keptAt, ownOffered}
+use Rattle.place.specs.Own.{standingAt, freeBy, givenBy, keptAt, ownOffered}
 use Rattle.place.specs.OwnHistory.{Event, claim, sent, failed, tick, release, block, Request, none, underway, acknowledged, lost, Seen, step, run}
-use Rattle.place.specs.OwnTheorems.{Answers, Declines, Asked, Complete, Breaks, Earned, VerdictExactly, FreeExactly, LengthShown, OneVerdict, spares, Spared, no-more, one-more}
+use Rattle.place.specs.OwnTheorems.{Answers, Declines, Asked, Complete, Breaks, Earned, VerdictExactly, FreeExactly, ReplyAsKept, ReplyShown, ArrivingShown, RequestShown, OneVerdict, spares, Spared, no-more, one-more}
 use Rattle.place.proofs.Messages.{none-not-whole}
 use Rattle.place.proofs.Arrivals as core
-use Rattle.place.proofs.OwnInvariant.{At, onReply, placeAt, is-acked, HasVerdict}
+use Rattle.place.proofs.OwnInvariant.{At, onReply, placeAt, is-acked, no-block, HasVerdict}
 use Rattle.place.proofs.OwnAlways.{always}
 use Rattle.place.specs.declared.Verdict.{Verdict}
 use Rattle.place.specs.declared.Verdict.the-variants.{Sent, Answered, Declined, Other, Broken, NoReply, SendFailed}
 use Rattle.place.specs.declared.Standing.{Standing}
 use Rattle.place.specs.declared.Standing.the-variants as standing
 use Rattle.place.specs.declared.Reply.{Reply}
+use Rattle.place.specs.declared.Kind.{Kind}
 use Rattle.place.specs.declared.OwnStage.{OwnStage}
 use Rattle.place.specs.declared.OwnStage.the-variants.{Free, Sending, Awaiting, Replying, Done}
 use Rattle.place.specs.declared.Own.{Own}
@@ -189,20 +191,45 @@ free-exactly c t w =
     let s = t .seen in
     (λ e. subst (Means c s) e (means c p h s g), λ e. sym (stage-shown c p h s g) ∙ ap (shown c s (wholeAt p)) e)
 
--- ---- the length shown
+-- ---- the reply shown
 
--- a place that has seen a whole reply has its length
-counted : (c : Terms) (p : OwnStage) (h : List ℕ) (s : Seen) → At c p h s → wholeAt p ≡ true → keptAt p .length ≡ s .bytes
-counted c Free h s g w = absurd (false≢true w)
-counted c Sending h s g w = absurd (false≢true w)
-counted c (Awaiting timer) h s g w = absurd (false≢true w)
-counted c (Replying a) h s g w = absurd (false≢true w)
-counted c (Done v r) h s g w = g .counted w
+-- a place that has seen a whole reply shows it
+shows-kept : (c : Terms) (p : OwnStage) (h : List ℕ) (s : Seen) → At c p h s → wholeAt p ≡ true → ReplyAsKept s (keptAt p)
+shows-kept c Free h s g w = absurd (false≢true w)
+shows-kept c Sending h s g w = absurd (false≢true w)
+shows-kept c (Awaiting timer) h s g w = absurd (false≢true w)
+shows-kept c (Replying a) h s g w = absurd (false≢true w)
+shows-kept c (Done v r) h s g w = g .shown w
 
-pub length-shown : LengthShown
-length-shown c t w k =
+pub reply-shown : ReplyShown
+reply-shown c t w k =
     let g = always c t w in
-    counted c (t .own .stage) (t .own .header) (t .seen) g (tells c (t .own .stage) (t .own .header) (t .seen) g (k .asked) .1 (k .whole))
+    shows-kept c (t .own .stage) (t .own .header) (t .seen) g (tells c (t .own .stage) (t .own .header) (t .seen) g (k .asked) .1 (k .whole))
+
+-- one that a reply is arriving at shows what is kept of it
+shows-arriving :
+    (c : Terms) (p : OwnStage) (h : List ℕ) (s : Seen) → At c p h s → Asked s → standingAt p ≡ standing.Open → 1 ≤ length (s .kept) → ReplyAsKept s (keptAt p)
+shows-arriving c Free h s g a o some = absurd (true≢false (ap freeBy o))
+shows-arriving c Sending h s g a o some = absurd (is-acked _ _ (g .request) (a .acked))
+shows-arriving c (Awaiting timer) h s g a o some = absurd (no-block (s .kept) (g .kept) some)
+shows-arriving c (Replying a) h s g asked o some =
+    let kind = g .arrives .kind in
+    record { w = ap (λ (k : Kind). k .w) kind; stream = ap (λ (k : Kind). k .stream) kind; function = ap (λ (k : Kind). k .function) kind; length = g .arrives .size }
+shows-arriving c (Done v r) h s g a o some = absurd (true≢false (ap givenBy o))
+
+pub arriving-shown : ArrivingShown
+arriving-shown c t w = shows-arriving c (t .own .stage) (t .own .header) (t .seen) (always c t w)
+
+-- and any one in use its request
+shows-request : (c : Terms) (p : OwnStage) (h : List ℕ) (s : Seen) → At c p h s → (standingAt p ≡ standing.Free → ⊥) → headerOf h ≡ s .header
+shows-request c Free h s g used = absurd (used refl)
+shows-request c Sending h s g used = sym (g .header)
+shows-request c (Awaiting timer) h s g used = sym (g .header)
+shows-request c (Replying a) h s g used = sym (g .header)
+shows-request c (Done v r) h s g used = sym (g .header)
+
+pub request-shown : RequestShown
+request-shown c t w = shows-request c (t .own .stage) (t .own .header) (t .seen) (always c t w)
 
 -- ---- one verdict
 

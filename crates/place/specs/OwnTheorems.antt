@@ -9,10 +9,11 @@ use lib.ListN.{length}
 use Rattle.header.specs.declared.header.Header.{Header}
 use Rattle.settings.specs.declared.terms.Terms.{Terms}
 use Rattle.place.specs.Message.{Routed, StartsMessage, Continues, LacksData, Whole, firstOf}
-use Rattle.place.specs.Own.{ownStanding, ownKept}
+use Rattle.place.specs.Own.{primaryOf, ownStanding, ownKept}
 use Rattle.place.specs.Range.{ownInRange}
 use Rattle.place.specs.OwnHistory.{Event, claim, sent, failed, tick, release, block, none, acknowledged, lost, Answer, passed, kept, spoilt, answerTo, Seen, Track, track, atStart, run}
 use Rattle.place.specs.declared.Verdict.{Verdict}
+use Rattle.place.specs.declared.Reply.{Reply}
 use Rattle.place.specs.declared.Verdict.the-variants.{Sent, Answered, Declined, Other, Broken, NoReply, SendFailed}
 use Rattle.place.specs.declared.Standing.the-variants.{Free, Open, Given}
 
@@ -72,9 +73,26 @@ VerdictExactly = (c : Terms) (t : Track) → Reached c t → (v : Verdict) → (
 abbrev pub FreeExactly : Type 0
 FreeExactly = (c : Terms) (t : Track) → Reached c t → (ownStanding (t .own) ≡ Free) ↔ (t .seen .request ≡ none)
 
--- After 2, 3 and 4 the length shown is that of the data of the blocks kept.
-abbrev pub LengthShown : Type 0
-LengthShown = (c : Terms) (t : Track) → Reached c t → Complete (t .seen) → ownKept (t .own) .length ≡ t .seen .bytes
+-- the W-bit, stream and function of the first block kept, and the length of the data of all of them
+pub record ReplyAsKept (s : Seen) (r : Reply) : Type 0 where
+  pub w : r .w ≡ firstOf (s .kept) .w
+  pub stream : r .stream ≡ firstOf (s .kept) .stream
+  pub function : r .function ≡ firstOf (s .kept) .function
+  pub length : r .length ≡ s .bytes
+
+-- After 2, 3 and 4 the reply shown is the one of the blocks kept.
+abbrev pub ReplyShown : Type 0
+ReplyShown = (c : Terms) (t : Track) → Reached c t → Complete (t .seen) → ReplyAsKept (t .seen) (ownKept (t .own))
+
+-- And while it arrives it is shown as far as it is kept.
+abbrev pub ArrivingShown : Type 0
+ArrivingShown =
+    (c : Terms) (t : Track) → Reached c t → Asked (t .seen) → ownStanding (t .own) ≡ Open → 1 ≤ length (t .seen .kept)
+    → ReplyAsKept (t .seen) (ownKept (t .own))
+
+-- The header shown of a place in use is that of the request which was accepted for it.
+abbrev pub RequestShown : Type 0
+RequestShown = (c : Terms) (t : Track) → Reached c t → (ownStanding (t .own) ≡ Free → ⊥) → primaryOf (t .own) ≡ t .seen .header
 
 -- ---- what becomes of a block
 

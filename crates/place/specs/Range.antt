@@ -51,8 +51,8 @@ incomingInRange i = incomingStageInRange (i .stage)
 
 pub record ArrivingFits (a : Arriving) : Type 0 where
   pub timer-most : a .timer ≤ 1200
-  pub next-most : a .next ≤ nextLimit
-  pub length-most : a .length ≤ messageLimit
+  pub next-most : a .next ≤ 4097
+  pub length-most : a .length ≤ 4096
 
 abbrev pub OwnStageFits : OwnStage → Type 0
 OwnStageFits own.Free = Unit {0}

@@ -12,6 +12,7 @@ use Rattle.wire.specs.Message.{messageLimit}
 use Rattle.header.specs.declared.header.Header.{Header}
 use Rattle.room.specs.Room.{keptIn}
 use Rattle.room.specs.declared.Message.the-variants.{Send}
+use Rattle.settings.specs.declared.terms.Terms.{Terms}
 use Rattle.place.specs.Incoming.{freshIncoming, primaryOf, incomingIsFree, incomingIsOpen, incomingLength, incomingSent}
 use Rattle.place.specs.declared.End.the-variants as end
 use Rattle.place.specs.declared.IncomingStage.{IncomingStage}
@@ -86,7 +87,7 @@ pub record Replies (y : Exchange) (room : List ℕ) (h : Header) (n f : ℕ) (r 
   pub goes-out : outgoingOf sends ≡ Message header (length r)
   pub read : length (sends .incoming) ≡ 4 → incomingReading (sentOf sends .exchange) 0 ≡ incoming.Place h n true Sent
 
-module _ (y : Exchange) (room : List ℕ) (h : Header) (n : ℕ) (owed : incomingReading y 0 ≡ incoming.Place h n true Owed) (w : h .w ≡ true)
+module _ (c : Terms) (y : Exchange) (room : List ℕ) (h : Header) (n : ℕ) (owed : incomingReading y 0 ≡ incoming.Place h n true Owed) (w : h .w ≡ true)
     (idle : y .sending ≡ sending.Nothing) (f : ℕ) (v : Verdict) (good : Earns (h .function) f v) (r : List ℕ) (short : length r ≤ messageLimit) where
   place : Owing h n (incomingPlace y 0)
   unfolding incomingReading
@@ -97,7 +98,7 @@ module _ (y : Exchange) (room : List ℕ) (h : Header) (n : ℕ) (owed : incomin
   taken = rw (place .was, place .header, allowed h f v good, w, le-ltb messageLimit (length r) short, idle)
 
   accepted : Replied y 0 f r room 0 (replyOf y 0 f r room .answer .exchange) (replyOf y 0 f r room .room)
-  accepted = accepted-replies y 0 f r room 0 taken
+  accepted = accepted-replies c y 0 f r room 0 taken
 
   -- the message, once the reply is sent
   answered : Incoming

@@ -62,7 +62,7 @@ module _ (a b : Setup) (l : Linked a b) (room far o : List ℕ) (m : Lent room f
   answer : Replies (whole-of a b far q d .exchange) (whole-of a b far q d .room) (got .primary) (length d) f r
   unfolding wanted
   answer =
-      replies (whole-of a b far q d .exchange) (whole-of a b far q d .room) (got .primary) (length d)
+      replies (inTicks b .terms) (whole-of a b far q d .exchange) (whole-of a b far q d .room) (got .primary) (length d)
       (got .complete ∙ ap (λ (t : Bool). incoming.Place (got .primary) (length d) true (cond t Owed NotOwed)) wants) (got .same .w ∙ wants)
       (still-sending (inTicks b .terms) (freshReceiver (b .last) far) (header a q) d (blockCount (length d)))
       f v (subst (λ (k : ℕ). Earns k f v) (sym (got .same .function)) good) r (c .short)

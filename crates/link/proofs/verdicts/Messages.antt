@@ -31,7 +31,7 @@ use Rattle.exchange.proofs.Releases.{message-stays}
 use Rattle.link.specs.Reading.{incomingOf, messageBy}
 use Rattle.link.specs.History.{Track, exchangeTrack, termsIn, next, track}
 use Rattle.link.specs.Verdicts.{thereBy, completeBy, isThere, isComplete, CompleteExactly, TakesExactly, headerBy, lengthBy, MessageShown, MessageStays, MessageKept, CompleteStays, MessageRead}
-use Rattle.link.proofs.inside.Places.{places-inside}
+use Rattle.link.proofs.inside.Places.{lent, places-inside}
 use Rattle.link.proofs.verdicts.Back.{exchange-back, fills-read}
 use Rattle.link.proofs.verdicts.Released.{KeptBut, released-or-spared, stays-once, stays-until}
 use Rattle.link.proofs.verdicts.Taken.{request-taken, request-leads}
@@ -192,7 +192,7 @@ message-kept t w p k e m =
     (λ f.
     let y = request-taken t m (free-incoming p) f in
     let gone = subst (λ (x : Exchange). incomingPlace x p .stage ≡ stage.Free) (request-leads t m (free-incoming p) f)
-    (accepted-releases .incoming (t .link .exchange) p (y .place) (y .asked) .place) in
+    (accepted-releases .incoming (termsIn t) (t .link .exchange) p (lent t m) (y .place) (y .asked) .place) in
     inr (f, none-read (next t m) p .1 (ap incoming.showsAt gone)))
     (λ s. inl (stays t (next t m) p e (stays-once side.incoming p (Same t p k) (same-on t p k) t w m s (same-here t p k e))))
     (released-or-spared side.incoming p t m)

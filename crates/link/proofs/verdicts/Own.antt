@@ -1,7 +1,7 @@
 -- Each own place's theorems, over the unit's calls (`specs/Verdicts.antt`). Assumes nothing.
 use Prim.Native.Nat.{ℕ, _<_}
 use mathlib.Core.Path.{_≡_, refl, sym, ap, _∙_, subst}
-use mathlib.Core.Bool.{true, cond, false≢true}
+use mathlib.Core.Bool.{true, cond, false≢true, true≢false}
 use mathlib.Core.List.{List}
 use mathlib.Core.Logic.{_↔_, inl, inr, ⊎-elim}
 use lib.ListN.{length}
@@ -18,6 +18,7 @@ use Rattle.place.specs.declared.Verdict.the-variants.{Sent, Answered, Declined,
 use Rattle.place.specs.declared.Standing.{Standing}
 use Rattle.place.specs.declared.Standing.the-variants.{Free, Open, Given}
 use Rattle.place.specs.declared.Reply.{Reply}
+use Rattle.place.specs.declared.Own.{Own}
 use Rattle.place.specs.declared.OwnStage.{OwnStage}
 use Rattle.place.specs.declared.OwnStage.the-variants as stage
 use Rattle.exchange.specs.Exchange.{ownPlace}
@@ -34,8 +35,8 @@ use Rattle.exchange.proofs.Numbering.{read}
 use Rattle.exchange.proofs.Releases.{verdict-stays}
 use Rattle.link.specs.Reading.{ownOf, replyBy}
 use Rattle.link.specs.History.{Track, exchangeTrack, termsIn, next, track}
-use Rattle.link.specs.Verdicts.{standingBy, standing, StandingRead, VerdictExactly, AnsweredExactly, FreeExactly, ReplyRead, OwnStays, KeptUntilReleased, OneVerdict, Decided, VerdictFalls}
-use Rattle.link.proofs.inside.Places.{places-inside}
+use Rattle.link.specs.Verdicts.{standingBy, standing, StandingRead, VerdictExactly, AnsweredExactly, FreeExactly, requestIn, replyIn, RequestRead, ArrivingRead, ReplyRead, OwnStays, KeptUntilReleased, OneVerdict, Decided, VerdictFalls}
+use Rattle.link.proofs.inside.Places.{lent, places-inside}
 use Rattle.link.proofs.verdicts.Back.{exchange-back, fills-read}
 use Rattle.link.proofs.verdicts.Released.{KeptBut, released-or-spared, stays-once, stays-until}
 use Rattle.link.proofs.verdicts.Taken.{request-taken, request-leads}
@@ -54,6 +55,35 @@ standing-read t p = let o = ownPlace (t .link .exchange) p in by-standing (ownSt
 -- what a place's theorem says of how it stands, a user reads
 read-so : (t : Track) (p : ℕ) (P : Standing → Type 0) → P (ownStanding (ownPlace (t .link .exchange) p)) → P (standing t p)
 read-so t p P w = subst P (sym (standing-read t p)) w
+
+-- a place in use is read with its request and its reply
+in-use : (z : Standing) (h : Header) (r : Reply) → (z ≡ Free → ⊥) → cond (freeBy z) reading.NoPlace (reading.Place h z r) ≡ reading.Place h z r
+in-use Free h r used = absurd (used refl)
+in-use Open h r used = refl
+in-use (Given v) h r used = refl
+
+module _ (t : Track) (p : ℕ) where
+  abbrev here : Own
+  here = ownPlace (t .link .exchange) p
+
+  reply-in : (ownStanding here ≡ Free → ⊥) → replyIn (ownOf (t .link) p) ≡ ownKept here
+  unfolding ownReading
+  reply-in used = ap replyIn (in-use (ownStanding here) (primaryOf here) (ownKept here) used)
+
+  request-in : (ownStanding here ≡ Free → ⊥) → requestIn (ownOf (t .link) p) ≡ primaryOf here
+  unfolding ownReading
+  request-in used = ap requestIn (in-use (ownStanding here) (primaryOf here) (ownKept here) used)
+
+pub request-read : RequestRead
+request-read t w p k used =
+    let inner : ownStanding (ownPlace (t .link .exchange) p) ≡ Free → ⊥ = λ f. used (standing-read t p ∙ f) in
+    request-in t p inner ∙ proved.request-shown (termsIn t) _ (places-inside t w .own p k) inner
+
+pub arriving-read : ArrivingRead
+arriving-read t w p k a e some =
+    let inner = sym (standing-read t p) ∙ e in
+    subst (place.ReplyAsKept (t .own p)) (sym (reply-in t p (λ f. absurd (true≢false (ap freeBy (sym f ∙ inner))))))
+    (proved.arriving-shown (termsIn t) _ (places-inside t w .own p k) a inner some)
 
 -- ---- each verdict exactly when
 
@@ -108,7 +138,12 @@ reply-read t w p k v b e =
     let inside = places-inside t (w .reached) .own p k in
     let given = sym (standing-read t p) ∙ e in
     let y = reply-reads (t .room) p (t .joined .replies p) (g .whole) k v b (o .header) (o .stage) given (g .own p k) in
-    record { bytes = y .0; size = sym (y .1) ∙ proved.length-shown c _ inside (complete-by c (t .own p) v b (proved.verdict-exactly c _ inside v .0 given)) }
+    let shown = proved.reply-shown c _ inside (complete-by c (t .own p) v b (proved.verdict-exactly c _ inside v .0 given)) in
+    record {
+      as-kept = subst (place.ReplyAsKept (t .own p)) (sym (reply-in t p (λ f. absurd (false≢true (ap givenBy (sym f ∙ given)))))) shown;
+      bytes = y .0;
+      size = sym (y .1) ∙ shown .length;
+    }
 
 -- ---- one verdict
 
@@ -137,7 +172,7 @@ kept-until-released t w p k v e m =
     (λ f.
     let y = request-taken t m (free-own p) f in
     let gone = subst (λ (x : Exchange). ownPlace x p .stage ≡ stage.Free) (request-leads t m (free-own p) f)
-    (accepted-releases .own (t .link .exchange) p (y .place) (y .asked) .place) in
+    (accepted-releases .own (termsIn t) (t .link .exchange) p (lent t m) (y .place) (y .asked) .place) in
     inr (f, standing-read (next t m) p ∙ ap standingAt gone))
     (λ s. inl (stays t (next t m) p (stays-once side.own p (Same t p k v e) (same-on t p k v e) t w m s refl)))
     (released-or-spared side.own p t m)
