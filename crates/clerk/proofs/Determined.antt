@@ -3,14 +3,11 @@
 use mathlib.Core.Path.{sym, _∙_}
 use Rattle.wire.specs.Determined.{Determined}
 use denote.Ref.{now}
-use Rattle.exchange.specs.Judge.{judging}
 use Rattle.exchange.specs.Request.{requesting}
-use Rattle.clerk.proofs.state.fresh.Reads as fresh-reads
-use Rattle.clerk.proofs.state.fresh.Kinds as fresh-kinds
-use Rattle.clerk.proofs.judging.judge.Reads as judge-reads
-use Rattle.clerk.proofs.judging.judge.Kinds as judge-kinds
 use Rattle.clerk.proofs.time.tick.Reads as tick-reads
 use Rattle.clerk.proofs.time.tick.Kinds as tick-kinds
+use Rattle.clerk.proofs.time.is_still.Reads as is-still-reads
+use Rattle.clerk.proofs.time.is_still.Kinds as is-still-kinds
 use Rattle.clerk.proofs.send.sent.Reads as sent-reads
 use Rattle.clerk.proofs.send.sent.Kinds as sent-kinds
 use Rattle.clerk.proofs.send.failed.Reads as failed-reads
@@ -25,33 +22,18 @@ use Rattle.clerk.proofs.request.release_own.Reads as release-own-reads
 use Rattle.clerk.proofs.request.release_own.Kinds as release-own-kinds
 use Rattle.clerk.proofs.request.release_incoming.Reads as release-incoming-reads
 use Rattle.clerk.proofs.request.release_incoming.Kinds as release-incoming-kinds
-use Rattle.clerk.proofs.reading.own_reading.Reads as own-reading-reads
-use Rattle.clerk.proofs.reading.own_reading.Kinds as own-reading-kinds
-use Rattle.clerk.proofs.reading.incoming_reading.Reads as incoming-reading-reads
-use Rattle.clerk.proofs.reading.incoming_reading.Kinds as incoming-reading-kinds
-use Rattle.clerk.proofs.range.in_range.Reads as in-range-reads
-use Rattle.clerk.proofs.range.in_range.Kinds as in-range-kinds
+use Rattle.clerk.proofs.request.refusal_number.Reads as refusal-number-reads
+use Rattle.clerk.proofs.request.refusal_number.Kinds as refusal-number-kinds
 use Rattle.clerk.proofs.request.is_message.Reads as is-message-reads
 use Rattle.clerk.proofs.request.is_message.Kinds as is-message-kinds
 use Rattle.clerk.proofs.request.is_sending.Reads as is-sending-reads
 use Rattle.clerk.proofs.request.is_sending.Kinds as is-sending-kinds
-use Rattle.clerk.proofs.time.is_still.Reads as is-still-reads
-use Rattle.clerk.proofs.time.is_still.Kinds as is-still-kinds
-use Rattle.clerk.proofs.flags.no_flags.Reads as no-flags-reads
-use Rattle.clerk.proofs.flags.no_flags.Kinds as no-flags-kinds
-use Rattle.clerk.proofs.note.note_number.Reads as note-number-reads
-use Rattle.clerk.proofs.note.note_number.Kinds as note-number-kinds
-use Rattle.clerk.proofs.request.refusal_number.Reads as refusal-number-reads
-use Rattle.clerk.proofs.request.refusal_number.Kinds as refusal-number-kinds
-
-pub fresh-determined : Determined 0 fresh-kinds.ps fresh-kinds.r fresh-reads.Asked fresh-reads.Post (λ κs r s. r)
-fresh-determined κs a = (tt, λ x y s t p q. p ∙ sym q)
-
-pub judge-determined : Determined 2 judge-kinds.ps judge-kinds.r judge-reads.Asked judge-reads.Post (λ κs r s. judging r (now (s .1 .1 .1 .1 .0)))
-judge-determined κs a = (tt, λ x y s t p q. p ∙ sym q)
 
 pub tick-determined : Determined 0 tick-kinds.ps tick-kinds.r tick-reads.Asked tick-reads.Post (λ κs r s. r)
 tick-determined κs a = (tt, λ x y s t p q. p ∙ sym q)
+
+pub is-still-determined : Determined 0 is-still-kinds.ps is-still-kinds.r is-still-reads.Asked is-still-reads.Post (λ κs r s. r)
+is-still-determined κs a = (tt, λ x y s t p q. p ∙ sym q)
 
 pub sent-determined : Determined 0 sent-kinds.ps sent-kinds.r sent-reads.Asked sent-reads.Post (λ κs r s. r)
 sent-determined κs a = (tt, λ x y s t p q. p ∙ sym q)
@@ -74,18 +56,6 @@ release-own-determined κs a = (tt, λ x y s t p q. p ∙ sym q)
 pub release-incoming-determined : Determined 0 release-incoming-kinds.ps release-incoming-kinds.r release-incoming-reads.Asked release-incoming-reads.Post (λ κs r s. r)
 release-incoming-determined κs a = (tt, λ x y s t p q. p ∙ sym q)
 
-pub own-reading-determined : Determined 0 own-reading-kinds.ps own-reading-kinds.r own-reading-reads.Asked own-reading-reads.Post (λ κs r s. r)
-own-reading-determined κs a = (tt, λ x y s t p q. p ∙ sym q)
-
-pub incoming-reading-determined : Determined 0 incoming-reading-kinds.ps incoming-reading-kinds.r incoming-reading-reads.Asked incoming-reading-reads.Post (λ κs r s. r)
-incoming-reading-determined κs a = (tt, λ x y s t p q. p ∙ sym q)
-
-pub in-range-determined : Determined 0 in-range-kinds.ps in-range-kinds.r in-range-reads.Asked in-range-reads.Post (λ κs r s. r)
-in-range-determined κs a = (tt, λ x y s t p q. p ∙ sym q)
-
-pub note-number-determined : Determined 0 note-number-kinds.ps note-number-kinds.r note-number-reads.Asked note-number-reads.Post (λ κs r s. r)
-note-number-determined κs a = (tt, λ x y s t p q. p ∙ sym q)
-
 pub refusal-number-determined : Determined 0 refusal-number-kinds.ps refusal-number-kinds.r refusal-number-reads.Asked refusal-number-reads.Post (λ κs r s. r)
 refusal-number-determined κs a = (tt, λ x y s t p q. p ∙ sym q)
 
@@ -94,9 +64,3 @@ is-message-determined κs a = (tt, λ x y s t p q. p ∙ sym q)
 
 pub is-sending-determined : Determined 0 is-sending-kinds.ps is-sending-kinds.r is-sending-reads.Asked is-sending-reads.Post (λ κs r s. r)
 is-sending-determined κs a = (tt, λ x y s t p q. p ∙ sym q)
-
-pub no-flags-determined : Determined 0 no-flags-kinds.ps no-flags-kinds.r no-flags-reads.Asked no-flags-reads.Post (λ κs r s. r)
-no-flags-determined κs a = (tt, λ x y s t p q. p ∙ sym q)
-
-pub is-still-determined : Determined 0 is-still-kinds.ps is-still-kinds.r is-still-reads.Asked is-still-reads.Post (λ κs r s. r)
-is-still-determined κs a = (tt, λ x y s t p q. p ∙ sym q)

@@ -1,24 +1,12 @@
-// The transactions at work (E4 6.8, 7.3, 7.4; 01, "Messages"): blocks that went up are judged, requests are taken or refused, ticks
-// counted, and the message being sent ends sent or failed. What each of these comes to is said in crate `exchange`.
+// The transactions at work (E4 6.8, 7.3, 7.4; 01, "Messages"): requests are taken or refused, ticks counted, and the message being sent
+// ends sent or failed. What each of these comes to is said in crate `exchange`; blocks that went up are judged in crate `judging`.
 //
 // The state is a value, and no public function has a `requires`: each answers for every input, and its `ensures` is one equation
 // with a definition of `exchange` for all it answers and every byte it is lent.
-mod flags;
-mod judging;
-mod note;
-mod range;
-mod reading;
 mod request;
 mod send;
-mod state;
 mod time;
 
-pub use flags::no_flags;
-pub use judging::judge;
-pub use note::note_number;
-pub use range::in_range;
-pub use reading::incoming_reading;
-pub use reading::own_reading;
 pub use request::is_message;
 pub use request::is_sending;
 pub use request::open;
@@ -29,6 +17,5 @@ pub use request::reply;
 pub use send::failed;
 pub use send::outgoing;
 pub use send::sent;
-pub use state::fresh;
 pub use time::is_still;
 pub use time::tick;

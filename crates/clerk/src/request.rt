@@ -4,11 +4,11 @@ ghost use Prim.Native.Nat.{_≤_};
 ghost use lib.ListN.{length};
 ghost use Rattle.wire.specs.Message.{messageLimit};
 ghost use Rattle.exchange.specs.Request.{requesting, badFunction, badPrimary, claimedAt, dataLong, isSending, notReady, openFree, openOf, primaryHeader, refusalNumber, refusedBy, releaseIncoming, releaseOwn, replyAccepted, replyOf, replyReady, sendingBy};
-use crate::state::incoming_place;
-use crate::state::own_place;
-use crate::state::put_incoming;
-use crate::state::put_own;
-use crate::state::with_sending;
+use desk::incoming_place;
+use desk::own_place;
+use desk::put_incoming;
+use desk::put_own;
+use desk::with_sending;
 use exchange::Asked;
 use exchange::Exchange;
 use exchange::Numbers;
@@ -177,7 +177,7 @@ fn open_free(
     let own = exchange.own;
     match free_own(own) {
         Found::At(place) => {
-            room::keep(room, Message::Send, 0, data);
+            store::keep(room, Message::Send, 0, data);
             let length = data.len() as u16;
             Requested {
                 exchange: claimed_at(exchange, terms, place, primary, length),
@@ -221,7 +221,7 @@ fn reply_accepted(
     requires { ⌜ length (now «data») ≤ messageLimit ⌝ }
     ensures { λ r. ⌜ requesting r (now (room .exit)) ≡ replyAccepted exchange place function (now («data» .entry)) (now (room .entry)) ⌝ }
 {
-    room::keep(room, Message::Send, 0, data);
+    store::keep(room, Message::Send, 0, data);
     let length = data.len() as u16;
     let after = incoming::answered(incoming_place(exchange, place));
     let sending = Sending::Reply {

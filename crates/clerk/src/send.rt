@@ -1,14 +1,14 @@
 // The message that is being sent: what it is, and how its sending ends.
 ghost use mathlib.Core.Path.{_≡_};
 ghost use Rattle.exchange.specs.Send.{endedOwn, endedReply, failedOf, outgoingOf, replyTo, sentOf};
-use crate::flags::no_flags;
-use crate::flags::verdict_flag;
-use crate::state::got_verdict;
-use crate::state::incoming_place;
-use crate::state::own_place;
-use crate::state::put_incoming;
-use crate::state::put_own;
-use crate::state::with_sending;
+use desk::got_verdict;
+use desk::incoming_place;
+use desk::no_flags;
+use desk::own_place;
+use desk::put_incoming;
+use desk::put_own;
+use desk::verdict_flag;
+use desk::with_sending;
 use exchange::Changed;
 use exchange::Exchange;
 use exchange::Outgoing;

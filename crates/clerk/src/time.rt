@@ -1,8 +1,8 @@
 // A tick: "own places 0 to 3, then incoming places 0 to 3" (01, "Messages").
 ghost use mathlib.Core.Path.{_≡_};
 ghost use Rattle.exchange.specs.Tick.{gotMarks, goneMarks, incomingsTimed, isStill, latestOver, ownTimed, ownsTimed, tickOf, wasDropped};
-use crate::state::got_verdict;
-use crate::state::latest_after;
+use desk::got_verdict;
+use desk::latest_after;
 use exchange::Changed;
 use exchange::Exchange;
 use exchange::Flags;

@@ -1,5 +1,5 @@
 -- What a request leaves, refused or accepted (`specs/Refusals.antt`). Assumes nothing.
-use Prim.Native.Nat.{ℕ, _<_}
+use Prim.Native.Nat.{ℕ}
 use mathlib.Core.Path.{_≡_, refl, sym, ap, subst, _∙_}
 use mathlib.Core.Bool.{Bool, true, false, not, _&&_, false≢true, true≢false}
 use mathlib.Core.List.{List}
@@ -29,7 +29,7 @@ use Rattle.exchange.specs.Exchange.{ownPlace, incomingPlace, gotVerdict,
 use Rattle.exchange.specs.Send.{replyTo}
 use Rattle.exchange.specs.Request.{refusalNumber, askedNumber, refusedBy, refused, primaryHeader, notReady, claimedAt, openBy, replyAccepted}
 use Rattle.exchange.specs.Rules.{Fours, LowestAt}
-use Rattle.exchange.specs.Refusals.{OwnFree, numbered, RefusedChangesNothing, FillsBy, AcceptedFills, RequestSpares, numberGiven, AsAsked, Opened, AcceptedOpens, RepliesTo, Replied, AcceptedReplies, OwnReleased, IncomingReleased, AcceptedReleases}
+use Rattle.exchange.specs.Refusals.{OwnFree, numbered, RefusedChangesNothing, FillsBy, AcceptedFills, RequestSpares, numberGiven, AsAsked, Opened, AcceptedOpens, RepliesTo, Replied, AcceptedReplies, OwnReleased, IncomingReleased, AcceptedReleases, AnswersAre}
 use Rattle.exchange.specs.declared.Exchange.{Exchange}
 use Rattle.exchange.specs.declared.Refusal.{Refusal}
 use Rattle.exchange.specs.declared.Refusal.the-variants as refusal
@@ -152,10 +152,10 @@ complete-at (incoming.Complete k) i e t n = record { size = k; was = e; becomes 
 complete-at (incoming.Replying k) i e t n = absurd (true≢false t)
 complete-at (incoming.Replied k f) i e t n = absurd (true≢false n)
 
--- a place that is not what stands for one outside is in the table
-in-table : {A : Type 0} (l : List A) (p : ℕ) (d : A) → (getD l p d ≡ d → ⊥) → p < length l
-in-table l p d used =
-    either (ltb p (length l)) (λ t. p < length l) (λ e. ltb-true _ _ e)
+-- a place that is not what stands for one outside is in the table, and can be put anew
+put-there : {A : Type 0} (l : List A) (p : ℕ) (d a : A) → (getD l p d ≡ d → ⊥) → getD (set l p a) p d ≡ a
+put-there l p d a used =
+    either (ltb p (length l)) (λ t. getD (set l p a) p d ≡ a) (λ e. getD-set-same l p a d (ltb-true _ _ e))
     (λ e. absurd (used (List·getD-eq-default l d {n = p} (ltb-false _ _ e))))
 
 reply-there :
@@ -178,11 +178,9 @@ reply-there x p f d room k = record {
   numbers = refl;
 }
   where
-    used : incomingPlace x p ≡ freshIncoming → ⊥
-    used e = true≢false (ap completeAt (sym (k .was)) ∙ ap (λ (i : Incoming). completeAt (i .stage)) e)
-
     place : incomingPlace (replyAccepted x p f d room .answer .exchange) p ≡ record { header = incomingPlace x p .header; stage = incoming.Replying (k .size) }
-    place = getD-set-same (x .incoming) p (incomingAnswered (incomingPlace x p)) freshIncoming (in-table (x .incoming) p freshIncoming used) ∙ k .becomes
+    place =
+        put-there (x .incoming) p freshIncoming _ (λ e. true≢false (ap completeAt (sym (k .was)) ∙ ap (λ (i : Incoming). completeAt (i .stage)) e)) ∙ k .becomes
 
 pub accepted-replies : AcceptedReplies
 unfolding refused refusedBy replyAccepted notReady
@@ -218,37 +216,25 @@ pub own-released : (x : Exchange) (p : ℕ) → ownHasVerdict (ownPlace x p) ≡
 unfolding putOwn
 own-released x p t = record {
   same = refl;
-  place = ap (λ (o : Own). o .stage) there ∙ own-freed (ownPlace x p .stage) (ownPlace x p) t;
+  place = ap (λ (o : Own). o .stage) (put-there (x .own) p freshOwn _ (λ e. false≢true (sym (ap ownHasVerdict e) ∙ t))) ∙ own-freed (ownPlace x p .stage) (ownPlace x p) t;
   others = λ j n. getD-set-other (x .own) p j _ freshOwn n;
   incoming = refl;
   saved = refl;
   numbers = λ k. record { last = x .numbers .last; latest = same-latest (x .numbers .latest) (ownPlace x p) (ownReleased (ownPlace x p)) t k };
   sending = refl;
 }
-  where
-    used : ownPlace x p ≡ freshOwn → ⊥
-    used e = false≢true (sym (ap ownHasVerdict e) ∙ t)
-
-    there : getD (set (x .own) p (ownReleased (ownPlace x p))) p freshOwn ≡ ownReleased (ownPlace x p)
-    there = getD-set-same (x .own) p _ freshOwn (in-table (x .own) p freshOwn used)
 
 incoming-released : (x : Exchange) (p : ℕ) → notReady (incomingPlace x p) ≡ false → IncomingReleased x p p (putIncoming x p (incomingReleased (incomingPlace x p)))
 unfolding putIncoming notReady
 incoming-released x p t = record {
   same = refl;
-  place = ap (λ (i : Incoming). i .stage) there ∙ incoming-freed (incomingPlace x p .stage) (incomingPlace x p) t;
+  place = ap (λ (i : Incoming). i .stage) (put-there (x .incoming) p freshIncoming _ (λ e. true≢false (sym (ap notReady e) ∙ t))) ∙ incoming-freed (incomingPlace x p .stage) (incomingPlace x p) t;
   others = λ j n. getD-set-other (x .incoming) p j _ freshIncoming n;
   own = refl;
   saved = refl;
   numbers = refl;
   sending = refl;
 }
-  where
-    used : incomingPlace x p ≡ freshIncoming → ⊥
-    used e = true≢false (sym (ap notReady e) ∙ t)
-
-    there : getD (set (x .incoming) p (incomingReleased (incomingPlace x p))) p freshIncoming ≡ incomingReleased (incomingPlace x p)
-    there = getD-set-same (x .incoming) p _ freshIncoming (in-table (x .incoming) p freshIncoming used)
 
 pub accepted-releases : AcceptedReleases
 unfolding refused refusedBy
@@ -259,4 +245,12 @@ accepted-releases = record {
   incoming = λ c x p room k.
       by-free-incoming x room (λ a. a .answer .asked ≡ Taken k → IncomingReleased x p k (a .answer .exchange)) (λ r e. absurd (not-taken e)) p
       (λ t e. subst (λ (j : ℕ). IncomingReleased x p j (putIncoming x p (incomingReleased (incomingPlace x p)))) (ap takenAt e) (incoming-released x p t));
+}
+
+pub answers-are : AnswersAre
+answers-are = record {
+  opens = λ c x q d room. refl;
+  replies = λ c x p f d room. refl;
+  frees-own = λ c x p room. refl;
+  frees-incoming = λ c x p room. refl;
 }

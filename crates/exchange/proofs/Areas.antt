@@ -5,7 +5,7 @@ use mathlib.Core.Bool.{Bool, true, false, false≢true}
 use mathlib.Core.List.{List, [], _∷_}
 use mathlib.Core.Logic.{_⊎_, inl, inr}
 use native.Mathlib.Omega.{arith}
-use lib.ListN.{length, length-map, getD-replicate}
+use lib.ListN.{length}
 use Rattle.wire.specs.Message.{messageLimit}
 use Rattle.header.specs.Header.{headerOf, headerBytes}
 use Rattle.header.specs.declared.header.Header.{Header}
@@ -13,8 +13,8 @@ use Rattle.settings.specs.declared.terms.Terms.{Terms}
 use Rattle.room.specs.Room.{keptIn}
 use Rattle.room.specs.declared.Message.the-variants as message
 use Rattle.place.specs.Fate.{fateOf}
-use Rattle.place.specs.Own.{freshOwn, keptAt, ownTick, ownClaimed}
-use Rattle.place.specs.Incoming.{freshIncoming, lengthAt, freeAt, openAt, incomingTick, begins, begunBy, incomingBegun, incomingAnswered}
+use Rattle.place.specs.Own.{keptAt, ownTick, ownClaimed}
+use Rattle.place.specs.Incoming.{lengthAt, freeAt, openAt, incomingTick, begins, begunBy, incomingBegun, incomingAnswered}
 use Rattle.place.proofs.Messages.{by-fate}
 use Rattle.place.specs.declared.Fate.{Fate}
 use Rattle.place.specs.declared.End.the-variants as end
@@ -22,7 +22,6 @@ use Rattle.place.specs.declared.IncomingStage.{IncomingStage}
 use Rattle.place.specs.declared.IncomingStage.the-variants as arrival
 use Rattle.place.specs.declared.OwnStage.{OwnStage}
 use Rattle.place.specs.declared.OwnStage.the-variants as stage
-use Rattle.place.specs.declared.Own.{Own}
 use Rattle.place.specs.declared.Incoming.{Incoming}
 use Rattle.table.specs.Own.{freeOwn}
 use Rattle.table.specs.Incoming.{openAlike, freeIncoming}
@@ -35,12 +34,12 @@ use Rattle.exchange.specs.Send.{endedOwn, endedReply, sentBy, failedBy}
 use Rattle.exchange.specs.Judge.{Judging, thrown, spoiltBy, replyBlock, messageBlock, beginsAt, judgeOf}
 use Rattle.exchange.specs.Request.{Requesting, refusedBy, refused, primaryHeader, claimedAt, replyAccepted, Request, reply, answerOf}
 use Rattle.exchange.specs.History.{Call, block, tick, acknowledged, failed, request, Joined, anew, ofNew, joins, ifKept, joinsAsked, Track, next, track, atStart}
+use Rattle.exchange.specs.Releases as side
 use Rattle.exchange.specs.Theorems.{Reached, StartsWith, hasReply, lengthSent, sends, JoinedInAreas}
 use Rattle.exchange.proofs.Cases.{Thrown, stray, no-place, too-long, empty, Takes, by-judge, by-request}
-use Rattle.exchange.proofs.Tables.{map-every}
 use Rattle.exchange.proofs.Filling.{Fills, spares-same, spares-kept, fills-first, fits-area}
 use Rattle.exchange.proofs.Holding.{OwnHolds, IncomingHolds, SendHolds, own-ticked, own-sent, own-failed, own-released, own-claimed, incoming-ticked, incoming-answered, incoming-ended, incoming-released}
-use Rattle.exchange.proofs.Joining.{Good, own-any, incoming-any, saved-good, put-own, put-sending, own-only, incoming-only, incoming-kept, offered-replied, offered-kept, reply-joined, message-joined, anew-here, anew-else}
+use Rattle.exchange.proofs.Joining.{Good, all-free, any, every, saved-good, only, joined, put-sending, offered-replied, offered-kept, reply-joined, message-joined}
 use Rattle.exchange.specs.declared.Note.{Note}
 use Rattle.exchange.specs.declared.Sending.{Sending}
 use Rattle.exchange.specs.declared.Sending.the-variants as sending
@@ -107,18 +106,18 @@ module _ (c : Terms) (x : Exchange) (h d room : List ℕ) (s : Joined) (g : Good
       let b = headerOf h in
       by-judge c x h d room After (λ e. g) (λ e u. g)
       (λ p q r.
-      let w = reply-lowest (x .own) b (g .own-four) .at p .0 r in
+      let w = reply-lowest (x .own) b (g .own .four) .at p .0 r in
       rw (r, offered-replied (ownPlace x p) b (length d) (w .1)) (reply-joined y room s gy p (w .0) b d (w .1)))
       (λ p q r m.
-      let w = message-lowest (x .incoming) b (g .incoming-four) .at p .0 m in
+      let w = message-lowest (x .incoming) b (g .incoming .four) .at p .0 m in
       rw (r, m, offered-kept (incomingPlace x p) b (length d) (w .1)) (message-joined y room s gy p (w .0) b d (w .1)))
       (λ p gone f q r m o e u t.
-      let w = taken-place x b p gone (g .incoming-four) t in
+      let w = taken-place x b p gone (g .incoming .four) t in
       rw (r, m, new-joined x b p gone s d t)
       (begun-at b d (incomingPlace x p .header) (incomingPlace x p .stage)
       (λ i. Good (putIncoming y p i) (keptIn room (message.Incoming p) 0 d) (record { replies = s .replies; messages = anew (s .messages) p d; outgoing = s .outgoing }))
       (w .1)
-      (incoming-kept y room s gy p 0 d d _ (begun-holds room p (g .whole) (w .0) b d (incomingPlace x p) (ap spoiltBy e ∙ u)))))
+      (joined y room s gy side.incoming p d _ (spares-kept room (message.Incoming p) 0 d (g .whole)) (begun-holds room p (g .whole) (w .0) b d (incomingPlace x p) (ap spoiltBy e ∙ u)))))
       (λ n t r m. outcast n t)
 
 -- ---- time, and the end of a send
@@ -129,32 +128,26 @@ module _ (x : Exchange) (room : List ℕ) (s : Joined) (g : Good x room s) where
   tick-joined c =
       record {
         whole = g .whole;
-        own-four = length-map (x .own) (ownTick c) ∙ g .own-four;
-        incoming-four = length-map (x .incoming) (incomingTick c) ∙ g .incoming-four;
-        own = λ p k.
-            map-every (λ p (o : Own). OwnHolds room p (o .stage) (s .replies p)) (ownTick c) (x .own) freshOwn refl
-            (λ p o w. own-ticked room p (s .replies p) c (o .header) (o .stage) w) p (g .own p k);
-        incoming = λ p k.
-            map-every (λ p (i : Incoming). IncomingHolds room p (i .stage) (s .messages p)) (incomingTick c) (x .incoming) freshIncoming refl
-            (λ p i w. incoming-ticked room p (s .messages p) c (i .header) (i .stage) w) p (g .incoming p k);
+        own = every (g .own) (ownTick c) refl (λ p o bs w. own-ticked room p bs c (o .header) (o .stage) w);
+        incoming = every (g .incoming) (incomingTick c) refl (λ p i bs w. incoming-ticked room p bs c (i .header) (i .stage) w);
         sends = g .sends;
       }
 
   -- nothing is being sent
   idle : (y : Exchange) → Good y room s → Good (withSending y sending.Nothing) room s
-  idle y w = put-sending y room room s sending.Nothing (s .outgoing) w (spares-same room message.Send (g .whole)) tt
+  idle y w = put-sending y room s w sending.Nothing (s .outgoing) (spares-same room message.Send (g .whole)) tt
 
   sent-joined : (q : Sending) → Good (sentBy q x .exchange) room s
   unfolding endedOwn endedReply
   sent-joined sending.Nothing = g
-  sent-joined (sending.Primary p n) = let o = ownPlace x p in idle _ (own-only x room s g p _ (own-sent room p (s .replies p) (o .header) (o .stage) (own-any x room s g p)))
-  sent-joined (sending.Reply p f n) = let i = incomingPlace x p in idle _ (incoming-only x room s g p _ (incoming-ended room p (s .messages p) end.Sent (i .header) (i .stage) (incoming-any x room s g p)))
+  sent-joined (sending.Primary p n) = let o = ownPlace x p in idle _ (only x room s g side.own p _ (own-sent room p (s .replies p) (o .header) (o .stage) (any (g .own) p)))
+  sent-joined (sending.Reply p f n) = let i = incomingPlace x p in idle _ (only x room s g side.incoming p _ (incoming-ended room p (s .messages p) end.Sent (i .header) (i .stage) (any (g .incoming) p)))
 
   failed-joined : (q : Sending) → Good (failedBy q x .exchange) room s
   unfolding endedOwn endedReply
   failed-joined sending.Nothing = g
-  failed-joined (sending.Primary p n) = let o = ownPlace x p in idle _ (own-only x room s g p _ (own-failed room p (s .replies p) (o .header) (o .stage) (own-any x room s g p)))
-  failed-joined (sending.Reply p f n) = let i = incomingPlace x p in idle _ (incoming-only x room s g p _ (incoming-ended room p (s .messages p) end.Failed (i .header) (i .stage) (incoming-any x room s g p)))
+  failed-joined (sending.Primary p n) = let o = ownPlace x p in idle _ (only x room s g side.own p _ (own-failed room p (s .replies p) (o .header) (o .stage) (any (g .own) p)))
+  failed-joined (sending.Reply p f n) = let i = incomingPlace x p in idle _ (only x room s g side.incoming p _ (incoming-ended room p (s .messages p) end.Failed (i .header) (i .stage) (any (g .incoming) p)))
 
   -- ---- requests
 
@@ -167,7 +160,7 @@ module _ (x : Exchange) (room : List ℕ) (s : Joined) (g : Good x room s) where
     to-send : (y : Exchange) (t : Joined) → Good y room t → (q : Sending) → ((after : List ℕ) → Fills after message.Send (length d) d → SendHolds after q d)
         → Good (withSending y q) (keptIn room message.Send 0 d) (record { replies = t .replies; messages = t .messages; outgoing = d })
     to-send y t w q here =
-        put-sending y room (keptIn room message.Send 0 d) t q d w (spares-kept room message.Send 0 d (g .whole))
+        put-sending y room t w q d (spares-kept room message.Send 0 d (g .whole))
         (here (keptIn room message.Send 0 d) (fills-first room message.Send d (g .whole) (omega arith) fits))
 
     -- a primary takes a free place
@@ -175,26 +168,26 @@ module _ (x : Exchange) (room : List ℕ) (s : Joined) (g : Good x room s) where
         → Good (claimedAt c x p q (length d)) (keptIn room message.Send 0 d) (record { replies = anew (s .replies) p []; messages = s .messages; outgoing = d })
     unfolding claimedAt putOwn withSending
     claimed c q p e =
-        let w = free-own-lowest (x .own) (g .own-four) .at p .0 e in
+        let w = free-own-lowest (x .own) (g .own .four) .at p .0 e in
         let o = ownPlace x p in
         let new = ownClaimed o (headerBytes (primaryHeader c q (nextNumber (x .own) (x .numbers .last) (x .numbers .latest)))) in
-        let empty = subst (OwnHolds room p (new .stage)) (sym (anew-here (s .replies) p [])) (own-claimed room p (o .header) (o .stage) (headerBytes (primaryHeader c q (nextNumber (x .own) (x .numbers .last) (x .numbers .latest)))) (w .1)) in
-        let put = put-own x room room s p new (anew (s .replies) p []) g (spares-same room (message.Reply p) (g .whole)) (anew-else (s .replies) p []) empty in
+        let empty = own-claimed room p (o .header) (o .stage) (headerBytes (primaryHeader c q (nextNumber (x .own) (x .numbers .last) (x .numbers .latest)))) (w .1) in
+        let put = joined x room s g side.own p [] new (spares-same room (message.Reply p) (g .whole)) empty in
         let all = to-send (putOwn x p new) (record { replies = anew (s .replies) p []; messages = s .messages; outgoing = s .outgoing }) put (sending.Primary p (length d)) (λ after f. f) in
-        record { whole = all .whole; own-four = all .own-four; incoming-four = all .incoming-four; own = all .own; incoming = all .incoming; sends = all .sends }
+        record { whole = all .whole; own = all .own; incoming = all .incoming; sends = all .sends }
 
     answered : (p f : ℕ) → Asked (reply p f d) (replyAccepted x p f d room)
     unfolding replyAccepted
     answered p f =
         let i = incomingPlace x p in
-        to-send (putIncoming x p (incomingAnswered i)) s (incoming-only x room s g p _ (incoming-answered room p (s .messages p) (i .header) (i .stage) (incoming-any x room s g p))) (sending.Reply p f (length d)) (λ after w. w)
+        to-send (putIncoming x p (incomingAnswered i)) s (only x room s g side.incoming p _ (incoming-answered room p (s .messages p) (i .header) (i .stage) (any (g .incoming) p))) (sending.Reply p f (length d)) (λ after w. w)
 
   request-joined : (c : Terms) (r : Request) → Asked r (answerOf c x r room)
   unfolding refused refusedBy
   request-joined c =
       by-request c x room Asked (λ r n. g) (λ q d p u e. claimed d (fits-area d (u .fits)) c q p e) (λ p f d u a b. answered d (fits-area d (u .fits)) p f)
-      (λ p e. let o = ownPlace x p in own-only x room s g p _ (own-released room p (s .replies p) (o .header) (o .stage) (own-any x room s g p)))
-      (λ p e. let i = incomingPlace x p in incoming-only x room s g p _ (incoming-released room p (s .messages p) (i .header) (i .stage) (incoming-any x room s g p)))
+      (λ p e. let o = ownPlace x p in only x room s g side.own p _ (own-released room p (s .replies p) (o .header) (o .stage) (any (g .own) p)))
+      (λ p e. let i = incomingPlace x p in only x room s g side.incoming p _ (incoming-released room p (s .messages p) (i .header) (i .stage) (any (g .incoming) p)))
 
 -- ---- any calls
 
@@ -215,15 +208,7 @@ all-calls c t [] g = g
 all-calls c t (k ∷ ks) g = all-calls c (next c t k) ks (one-call c t k g)
 
 pub fresh-good : (last : ℕ) (room : List ℕ) → length room ≡ 36864 → GoodTrack (atStart last room)
-fresh-good last room w =
-    record {
-      whole = w;
-      own-four = refl;
-      incoming-four = refl;
-      own = λ p k. rw (getD-replicate 4 p freshOwn freshOwn k) tt;
-      incoming = λ p k. rw (getD-replicate 4 p freshIncoming freshIncoming k) tt;
-      sends = tt;
-    }
+fresh-good last room w = record { whole = w; own = all-free side.own room (λ p. []); incoming = all-free side.incoming room (λ p. []); sends = tt }
 
 pub always : (c : Terms) (t : Track) → Reached c t → GoodTrack t
 always c t w = subst GoodTrack (w .so) (all-calls c (atStart (w .last) (w .room)) (w .calls) (fresh-good (w .last) (w .room) (w .whole)))
@@ -254,7 +239,7 @@ joined-in-areas c t w =
     let g = always c t w in
     let x = t .exchange in
     record {
-      reply = λ p k e. reply-begins (t .room) p (ownPlace x p .stage) (t .seen .replies p) (g .own p k) e;
-      incoming = λ p k e. message-begins (t .room) p (incomingPlace x p .stage) (t .seen .messages p) (g .incoming p k) e;
+      reply = λ p k e. reply-begins (t .room) p (ownPlace x p .stage) (t .seen .replies p) (g .own .each p k) e;
+      incoming = λ p k e. message-begins (t .room) p (incomingPlace x p .stage) (t .seen .messages p) (g .incoming .each p k) e;
       outgoing = λ e. send-begins (t .room) (x .sending) (t .seen .outgoing) (g .sends) e;
     }

@@ -22,7 +22,7 @@ use Rattle.exchange.specs.declared.Flags.{Flags}
 use Rattle.exchange.specs.declared.Exchange.{Exchange}
 
 -- nothing is got by a place that stays as it is
-stays : (t : Bool) → not t && t ≡ false
+pub stays : (t : Bool) → not t && t ≡ false
 stays true = refl
 stays false = refl
 
@@ -57,38 +57,40 @@ marked-else q on p k ne = getD-set-other noMarks q p on false ne ∙ unmarked p 
 abbrev pub Forced : (ℕ → Type 0) → Flags → Type 0
 Forced T f = (p : ℕ) → p < 4 → T p → flagAt (f .dropped) p ≡ true
 
--- ---- what a call makes of one place
+-- ---- a test that no place meets which stays as it is
 
--- the own places are as they were
-module _ (x y : Exchange) (f : Flags) (same : x .own ≡ y .own) (none : f .verdicts ≡ noMarks) where
-  own-same : (p : ℕ) → p < 4 → flagAt (f .verdicts) p ≡ becameGiven (ownPlace x p) (ownPlace y p)
-  own-same p k =
-      ap (λ (m : List Bool). flagAt m p) none ∙ unmarked p k
-      ∙ sym (subst (λ os. becameGiven (ownPlace x p) (getD os p freshOwn) ≡ false) same (no-verdict (ownPlace x p)))
+module _ {A : Type 0} (fresh : A) (got : A → A → Bool) (still : (a : A) → got a a ≡ false) (l k : List A) where
+  -- no place changes, and no flag is raised
+  none-got : l ≡ k → (p : ℕ) → p < 4 → flagAt noMarks p ≡ got (getD l p fresh) (getD k p fresh)
+  none-got same p w = unmarked p w ∙ sym (subst (λ j. got (getD l p fresh) (getD j p fresh) ≡ false) same (still (getD l p fresh)))
 
--- the incoming places are as they were
-module _ (x y : Exchange) (f : Flags) (same : x .incoming ≡ y .incoming) (none : f .completed ≡ noMarks) (kept : f .dropped ≡ noMarks) where
-  incoming-completed : (p : ℕ) → p < 4 → flagAt (f .completed) p ≡ becameComplete (incomingPlace x p) (incomingPlace y p)
-  incoming-completed p k =
-      ap (λ (m : List Bool). flagAt m p) none ∙ unmarked p k
-      ∙ sym (subst (λ is. becameComplete (incomingPlace x p) (getD is p freshIncoming) ≡ false) same (not-completed (incomingPlace x p)))
+  -- place q is put anew, and its flag tells
+  one-got : length l ≡ 4 → (q : ℕ) (a : A) (on : Bool) → k ≡ set l q a → on ≡ got (getD l q fresh) a
+      → (p : ℕ) → p < 4 → flagAt (markAt q on) p ≡ got (getD l p fresh) (getD k p fresh)
+  one-got four q a on put e p w =
+      subst (λ j. flagAt (markAt q on) p ≡ got (getD l p fresh) (getD j p fresh)) (sym put)
+      (set-every (λ p b. p < 4 → flagAt (markAt q on) p ≡ got (getD l p fresh) b) l fresh q a
+      (λ p i ne w. marked-else q on p w ne ∙ sym (still (getD l p fresh))) (λ w. marked-here q on w ∙ e) p (omega arith) w)
 
-  module _ (T : ℕ → Type 0) (forced : Forced T f) where
-    incoming-dropped : (p : ℕ) → p < 4 → (flagAt (f .dropped) p ≡ true) ↔ (Dropped (incomingPlace x p) (incomingPlace y p) ⊎ T p)
-    incoming-dropped p k = (
-      λ e. absurd (false≢true (sym (ap (λ (m : List Bool). flagAt m p) kept ∙ unmarked p k) ∙ e)),
-      ⊎-elim
-          (λ d. absurd (not-dropped (incomingPlace x p .header) (incomingPlace x p .stage) (subst (λ is. Dropped (incomingPlace x p) (getD is p freshIncoming)) (sym same) d)))
-          (forced p k),
-    )
+-- ---- what a call makes of the places
+
+-- no message is dropped where the incoming places are as they were
+none-dropped : (x y : Exchange) (f : Flags) (T : ℕ → Type 0) → x .incoming ≡ y .incoming → f .dropped ≡ noMarks → Forced T f
+    → (p : ℕ) → p < 4 → (flagAt (f .dropped) p ≡ true) ↔ (Dropped (incomingPlace x p) (incomingPlace y p) ⊎ T p)
+none-dropped x y f T same none forced p k = (
+  λ e. absurd (false≢true (sym (ap (λ (m : List Bool). flagAt m p) none ∙ unmarked p k) ∙ e)),
+  ⊎-elim
+      (λ d. absurd (not-dropped (incomingPlace x p .header) (incomingPlace x p .stage) (subst (λ is. Dropped (incomingPlace x p) (getD is p freshIncoming)) (sym same) d)))
+      (forced p k),
+)
 
 -- a call that changes no place raises no flag
 pub unflagged : (x y : Exchange) (T : ℕ → Type 0) → x .own ≡ y .own → x .incoming ≡ y .incoming → Forced T noFlags → Flagged x y T noFlags
 unflagged x y T o i forced =
     record {
-      verdicts = own-same x y noFlags o refl;
-      completed = incoming-completed x y noFlags i refl refl;
-      dropped = incoming-dropped x y noFlags i refl refl T forced;
+      verdicts = none-got freshOwn becameGiven no-verdict (x .own) (y .own) o;
+      completed = none-got freshIncoming becameComplete not-completed (x .incoming) (y .incoming) i;
+      dropped = none-dropped x y noFlags T i refl forced;
     }
 
 -- an own place is put anew
@@ -98,16 +100,9 @@ unfolding gotVerdict becameGiven
 own-flagged x y T q o four put i forced =
     let f : Flags = verdictFlag q (gotVerdict (ownPlace x q) o) in
     record {
-      verdicts = λ p k.
-          subst (λ os. flagAt (f .verdicts) p ≡ becameGiven (ownPlace x p) (getD os p freshOwn)) (sym put)
-          (set-every (λ p (a : Own). p < 4 → flagAt (f .verdicts) p ≡ becameGiven (ownPlace x p) a) (x .own) freshOwn q o
-          (λ p l ne k. marked-else q (gotVerdict (ownPlace x q) o) p k ne ∙ sym (no-verdict (ownPlace x p)))
-          (λ k. marked-here q (gotVerdict (ownPlace x q) o) k)
-          p
-          (omega arith)
-          k);
-      completed = incoming-completed x y f i refl refl;
-      dropped = incoming-dropped x y f i refl refl T forced;
+      verdicts = one-got freshOwn becameGiven no-verdict (x .own) (y .own) four q o _ put refl;
+      completed = none-got freshIncoming becameComplete not-completed (x .incoming) (y .incoming) i;
+      dropped = none-dropped x y f T i refl forced;
     }
 
 -- an incoming place is put anew
@@ -120,15 +115,8 @@ pub incoming-flagged : (x y : Exchange) (T : ℕ → Type 0) (q : ℕ) (i : Inco
 incoming-flagged x y T q i done gone four o put complete drops only forced =
     let f : Flags = incomingFlags q done gone in
     record {
-      verdicts = own-same x y f o refl;
-      completed = λ p k.
-          subst (λ is. flagAt (f .completed) p ≡ becameComplete (incomingPlace x p) (getD is p freshIncoming)) (sym put)
-          (set-every (λ p (a : Incoming). p < 4 → flagAt (f .completed) p ≡ becameComplete (incomingPlace x p) a) (x .incoming) freshIncoming q i
-          (λ p l ne k. marked-else q done p k ne ∙ sym (not-completed (incomingPlace x p)))
-          (λ k. marked-here q done k ∙ complete)
-          p
-          (omega arith)
-          k);
+      verdicts = none-got freshOwn becameGiven no-verdict (x .own) (y .own) o;
+      completed = one-got freshIncoming becameComplete not-completed (x .incoming) (y .incoming) four q i done put complete;
       dropped = λ p k.
           subst (λ is. (flagAt (f .dropped) p ≡ true) ↔ (Dropped (incomingPlace x p) (getD is p freshIncoming) ⊎ T p)) (sym put)
           (set-every (λ p (a : Incoming). p < 4 → (flagAt (f .dropped) p ≡ true) ↔ (Dropped (incomingPlace x p) a ⊎ T p)) (x .incoming) freshIncoming q i

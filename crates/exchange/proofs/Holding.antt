@@ -1,7 +1,7 @@
 -- What the area of a place holds at each stage, and what the events of a place leave of it. Assumes nothing.
 use Prim.Native.Nat.{ℕ, _<_}
 use mathlib.Core.Path.{_≡_, refl, sym, subst}
-use mathlib.Core.Bool.{true, false, false≢true}
+use mathlib.Core.Bool.{true, false≢true}
 use mathlib.Core.List.{List, []}
 use native.Mathlib.Omega.{arith}
 use lib.ListN.{length}
@@ -9,6 +9,7 @@ use Rattle.wire.proofs.Choice.{chosen}
 use Rattle.header.specs.declared.header.Header.{Header}
 use Rattle.settings.specs.declared.terms.Terms.{Terms}
 use Rattle.settings.proofs.Timers.{by-timer}
+use Rattle.place.specs.OwnTheorems.{onReply}
 use Rattle.place.proofs.Arrivals.{by-waited}
 use Rattle.room.specs.declared.Message.{Message}
 use Rattle.room.specs.declared.Message.the-variants as message
@@ -21,7 +22,9 @@ use Rattle.place.specs.declared.End.{End}
 use Rattle.place.specs.declared.IncomingStage.{IncomingStage}
 use Rattle.place.specs.declared.IncomingStage.the-variants as arrival
 use Rattle.place.specs.declared.Incoming.{Incoming}
-use Rattle.exchange.specs.Theorems.{byVerdict}
+use Rattle.exchange.specs.Releases.{Side}
+use Rattle.exchange.specs.Releases as side
+use Rattle.exchange.proofs.Sides.{Place}
 use Rattle.exchange.proofs.Filling.{Fills, Spares, fills-none}
 use Rattle.exchange.specs.declared.Sending.{Sending}
 use Rattle.exchange.specs.declared.Sending.the-variants as sending
@@ -34,7 +37,7 @@ OwnHolds room p stage.Free bs = Unit {0}
 OwnHolds room p stage.Sending bs = bs ≡ []
 OwnHolds room p (stage.Awaiting timer) bs = bs ≡ []
 OwnHolds room p (stage.Replying a) bs = Fills room (message.Reply p) (a .length) bs
-OwnHolds room p (stage.Done v r) bs = byVerdict v ≡ true → Fills room (message.Reply p) (r .length) bs
+OwnHolds room p (stage.Done v r) bs = onReply v ≡ true → Fills room (message.Reply p) (r .length) bs
 
 -- at each stage of incoming place p
 abbrev pub IncomingHolds : List ℕ → ℕ → IncomingStage → List ℕ → Type 0
@@ -43,6 +46,15 @@ IncomingHolds room p (arrival.Open a) bs = Fills room (message.Incoming p) (a .l
 IncomingHolds room p (arrival.Complete n) bs = Fills room (message.Incoming p) n bs
 IncomingHolds room p (arrival.Replying n) bs = Fills room (message.Incoming p) n bs
 IncomingHolds room p (arrival.Replied n e) bs = Fills room (message.Incoming p) n bs
+
+-- of a place on either side, and which area is its own
+abbrev pub Holds : (z : Side) → List ℕ → ℕ → Place z → List ℕ → Type 0
+Holds side.own room p o bs = OwnHolds room p (o .stage) bs
+Holds side.incoming room p i bs = IncomingHolds room p (i .stage) bs
+
+abbrev pub area : Side → ℕ → Message
+area side.own p = message.Reply p
+area side.incoming p = message.Incoming p
 
 -- of the message being sent
 abbrev pub SendHolds : List ℕ → Sending → List ℕ → Type 0
@@ -53,19 +65,23 @@ SendHolds room (sending.Reply p f n) bs = Fills room message.Send n bs
 -- ---- a write elsewhere
 
 module _ (room after : List ℕ) (m : Message) (s : Spares room after m) where
-  pub own-spared : (p : ℕ) → p < 4 → (m ≡ message.Reply p → ⊥) → (o : OwnStage) (bs : List ℕ) → OwnHolds room p o bs → OwnHolds after p o bs
+  own-spared : (p : ℕ) → p < 4 → (m ≡ message.Reply p → ⊥) → (o : OwnStage) (bs : List ℕ) → OwnHolds room p o bs → OwnHolds after p o bs
   own-spared p k ne stage.Free bs h = tt
   own-spared p k ne stage.Sending bs h = h
   own-spared p k ne (stage.Awaiting timer) bs h = h
   own-spared p k ne (stage.Replying a) bs h = s .others (message.Reply p) (a .length) bs ne k h
   own-spared p k ne (stage.Done v r) bs h = λ e. s .others (message.Reply p) (r .length) bs ne k (h e)
 
-  pub incoming-spared : (p : ℕ) → p < 4 → (m ≡ message.Incoming p → ⊥) → (i : IncomingStage) (bs : List ℕ) → IncomingHolds room p i bs → IncomingHolds after p i bs
+  incoming-spared : (p : ℕ) → p < 4 → (m ≡ message.Incoming p → ⊥) → (i : IncomingStage) (bs : List ℕ) → IncomingHolds room p i bs → IncomingHolds after p i bs
   incoming-spared p k ne arrival.Free bs h = tt
   incoming-spared p k ne (arrival.Open a) bs h = s .others (message.Incoming p) (a .length) bs ne k h
   incoming-spared p k ne (arrival.Complete n) bs h = s .others (message.Incoming p) n bs ne k h
   incoming-spared p k ne (arrival.Replying n) bs h = s .others (message.Incoming p) n bs ne k h
   incoming-spared p k ne (arrival.Replied n e) bs h = s .others (message.Incoming p) n bs ne k h
+
+  pub spared : (z : Side) (p : ℕ) → p < 4 → (m ≡ area z p → ⊥) → (o : Place z) (bs : List ℕ) → Holds z room p o bs → Holds z after p o bs
+  spared side.own p k ne o = own-spared p k ne (o .stage)
+  spared side.incoming p k ne i = incoming-spared p k ne (i .stage)
 
   pub send-spared : (m ≡ message.Send → ⊥) → (q : Sending) (bs : List ℕ) → SendHolds room q bs → SendHolds after q bs
   send-spared ne sending.Nothing bs h = tt

@@ -1,19 +1,18 @@
 -- After any calls each area begins with the data of the kept blocks joined. Assumes nothing.
-use Prim.Native.Nat.{ℕ, _+_, _≤_, _<_}
+use Prim.Native.Nat.{ℕ, _≤_, _<_}
 use mathlib.Core.Path.{_≡_, refl, sym, ap, _∙_, subst}
-use mathlib.Core.Bool.{true, false, false≢true}
-use mathlib.Core.List.{List, _++_}
+use mathlib.Core.Bool.{true, false≢true}
+use mathlib.Core.List.{List, map, _++_}
 use native.Mathlib.Omega.{arith}
 use lib.Dec.{ltb}
-use lib.ListN.{length, length-set, List·getD-eq-default}
+use lib.ListN.{length, getD, set, replicate, length-map, length-set, getD-replicate, List·getD-eq-default}
 use borrow.Author.Tests.{eq-eqb, ne-eqb, ltb-true, ltb-false}
 use Rattle.wire.proofs.Choice.{either}
 use Rattle.header.specs.declared.header.Header.{Header}
-use Rattle.room.specs.Room.{keptIn}
 use Rattle.room.specs.declared.Message.{Message}
 use Rattle.room.specs.declared.Message.the-variants as message
-use Rattle.place.specs.Own.{freshOwn, ended, ownKept, ownTakes, repliedBy, replied, ownOffered}
-use Rattle.place.specs.Incoming.{freshIncoming, incomingLength, incomingTakes, keptBy, goesOn, incomingOffered}
+use Rattle.place.specs.Own.{ended, ownKept, ownTakes, repliedBy, replied, ownOffered}
+use Rattle.place.specs.Incoming.{incomingLength, incomingTakes, keptBy, goesOn, incomingOffered}
 use Rattle.place.proofs.Messages.{by-fate}
 use Rattle.place.specs.Fate.{fateOf}
 use Rattle.place.specs.declared.Fate.{Fate}
@@ -23,44 +22,77 @@ use Rattle.exchange.specs.Note.{noteBy}
 use Rattle.exchange.specs.Exchange.{ownPlace, incomingPlace, putOwn, putIncoming, withSending, savedNow}
 use Rattle.exchange.specs.Judge.{keepBy}
 use Rattle.exchange.specs.History.{Joined, anew, ifKept}
-use Rattle.exchange.proofs.Tables.{set-every}
+use Rattle.exchange.specs.Releases.{Side}
+use Rattle.exchange.specs.Releases as side
+use Rattle.exchange.proofs.Tables.{set-every, map-every}
+use Rattle.exchange.proofs.Sides.{Place, fresh}
 use Rattle.exchange.proofs.Filling.{Spares, spares-same, spares-kept, fills-more}
-use Rattle.exchange.proofs.Holding.{OwnHolds, IncomingHolds, SendHolds, own-spared, incoming-spared, send-spared, own-has, incoming-has}
+use Rattle.exchange.proofs.Holding.{Holds, area, SendHolds, spared, send-spared, own-has, incoming-has}
 use Rattle.exchange.specs.declared.Sending.{Sending}
 use Rattle.exchange.specs.declared.Exchange.{Exchange}
 
+-- ---- one side
+
+-- each area holds the data joined for its place
+pub record Filled (z : Side) (l : List (Place z)) (room : List ℕ) (f : ℕ → List ℕ) : Type 0 where
+  pub four : length l ≡ 4
+  pub each : (p : ℕ) → p < 4 → Holds z room p (getD l p (fresh z)) (f p)
+
+-- a free place holds nothing
+holds-free : (z : Side) (room : List ℕ) (p : ℕ) (bs : List ℕ) → Holds z room p (fresh z) bs
+holds-free side.own room p bs = tt
+holds-free side.incoming room p bs = tt
+
+pub all-free : (z : Side) (room : List ℕ) (f : ℕ → List ℕ) → Filled z (replicate 4 (fresh z)) room f
+all-free z room f = record { four = refl; each = λ p k. rw (getD-replicate 4 p (fresh z) (fresh z) k) (holds-free z room p (f p)) }
+
+-- each place has an area of its own
+one-area : (z : Side) (p q : ℕ) → area z q ≡ area z p → p ≡ q
+one-area side.own p q e = cc
+one-area side.incoming p q e = cc
+
+module _ {z : Side} {l : List (Place z)} {room : List ℕ} {f : ℕ → List ℕ} (g : Filled z l room f) where
+  -- also that of a place outside the table, which is as a free one
+  pub any : (p : ℕ) → Holds z room p (getD l p (fresh z)) (f p)
+  any p =
+      either (ltb p 4) (λ t. Holds z room p (getD l p (fresh z)) (f p)) (λ e. g .each p (ltb-true p 4 e))
+      (λ e.
+      let out : length l ≤ p = omega (arith, ltb-false p 4 e, g .four) in
+      rw (List·getD-eq-default l (fresh z) out) (holds-free z room p (f p)))
+
+  -- each place is put anew
+  pub every : (h : Place z → Place z) → h (fresh z) ≡ fresh z → ((p : ℕ) (o : Place z) (bs : List ℕ) → Holds z room p o bs → Holds z room p (h o) bs)
+      → Filled z (map h l) room f
+  every h e w = record {
+    four = length-map l h ∙ g .four;
+    each = λ p k. map-every (λ p (o : Place z). Holds z room p o (f p)) h l (fresh z) e (λ p o. w p o (f p)) p (g .each p k);
+  }
+
+  -- an area elsewhere is written
+  elsewhere : {after : List ℕ} {m : Message} → Spares room after m → ((p : ℕ) → m ≡ area z p → ⊥) → Filled z l after f
+  elsewhere {after} {m} sp ne = record { four = g .four; each = λ p k. spared room after m sp z p k (ne p) (getD l p (fresh z)) (f p) (g .each p k) }
+
+  -- place q is put anew, and no area but its own is written
+  one : {after : List ℕ} (q : ℕ) (o : Place z) (h : ℕ → List ℕ) → Spares room after (area z q) → ((p : ℕ) → (p ≡ q → ⊥) → h p ≡ f p) → Holds z after q o (h q)
+      → Filled z (set l q o) after h
+  one {after} q o h sp same here = record {
+    four = length-set l q o ∙ g .four;
+    each = λ p k.
+        set-every (λ p (a : Place z). Holds z after p a (h p)) l (fresh z) q o
+        (λ p k ne.
+        let j : p < 4 = omega (arith, g .four) in
+        spared room after (area z q) sp z p j (λ e. ne (one-area z p q e)) (getD l p (fresh z)) (h p)
+        (subst (Holds z room p (getD l p (fresh z))) (sym (same p ne)) (g .each p j)))
+        here p (omega (arith, g .four));
+  }
+
+-- ---- both sides, and the message being sent
+
 pub record Good (x : Exchange) (room : List ℕ) (s : Joined) : Type 0 where
   pub whole : length room ≡ 36864
-  pub own-four : length (x .own) ≡ 4
-  pub incoming-four : length (x .incoming) ≡ 4
-  pub own : (p : ℕ) → p < 4 → OwnHolds room p (ownPlace x p .stage) (s .replies p)
-  pub incoming : (p : ℕ) → p < 4 → IncomingHolds room p (incomingPlace x p .stage) (s .messages p)
+  pub own : Filled side.own (x .own) room (s .replies)
+  pub incoming : Filled side.incoming (x .incoming) room (s .messages)
   pub sends : SendHolds room (x .sending) (s .outgoing)
-
--- also of a place outside the table, which is as a free one
-module _ (x : Exchange) (room : List ℕ) (s : Joined) (g : Good x room s) (p : ℕ) where
-  pub own-any : OwnHolds room p (ownPlace x p .stage) (s .replies p)
-  own-any =
-      either (ltb p 4) (λ t. OwnHolds room p (ownPlace x p .stage) (s .replies p))
-      (λ e. g .own p (ltb-true p 4 e))
-      (λ e.
-      let out : length (x .own) ≤ p = omega (arith, ltb-false p 4 e, g .own-four) in
-      rw (List·getD-eq-default (x .own) freshOwn out) tt)
-
-  pub incoming-any : IncomingHolds room p (incomingPlace x p .stage) (s .messages p)
-  incoming-any =
-      either (ltb p 4) (λ t. IncomingHolds room p (incomingPlace x p .stage) (s .messages p))
-      (λ e. g .incoming p (ltb-true p 4 e))
-      (λ e.
-      let out : length (x .incoming) ≤ p = omega (arith, ltb-false p 4 e, g .incoming-four) in
-      rw (List·getD-eq-default (x .incoming) freshIncoming out) tt)
-
--- place q's data anew, and no other's
-pub anew-here : (f : ℕ → List ℕ) (q : ℕ) (bs : List ℕ) → anew f q bs q ≡ bs
-anew-here f q bs = rw (eq-eqb q q refl)
-
-pub anew-else : (f : ℕ → List ℕ) (q : ℕ) (bs : List ℕ) (p : ℕ) → (p ≡ q → ⊥) → anew f q bs p ≡ f p
-anew-else f q bs p ne = rw (ne-eqb p q ne)
 
 -- messages of different kinds are not the same
 abbrev kind : Message → ℕ
@@ -74,67 +106,65 @@ apart m o ne e = ne (ap kind e)
 -- the header is saved
 pub saved-good : (x : Exchange) (h room : List ℕ) (s : Joined) → Good x room s → Good (savedNow x h) room s
 unfolding savedNow
-saved-good x h room s g = record { whole = g .whole; own-four = g .own-four; incoming-four = g .incoming-four; own = g .own; incoming = g .incoming; sends = g .sends }
+saved-good x h room s g = record { whole = g .whole; own = g .own; incoming = g .incoming; sends = g .sends }
 
--- an own place is put anew, and no area but its own is written
-pub put-own : (x : Exchange) (room after : List ℕ) (s : Joined) (q : ℕ) (o : Own) (f : ℕ → List ℕ) → Good x room s → Spares room after (message.Reply q)
-    → ((p : ℕ) → (p ≡ q → ⊥) → f p ≡ s .replies p) → OwnHolds after q (o .stage) (f q)
-    → Good (putOwn x q o) after (record { replies = f; messages = s .messages; outgoing = s .outgoing })
-unfolding putOwn
-put-own x room after s q o f g sp same here =
-    record {
-      whole = sp .whole;
-      own-four = length-set (x .own) q o ∙ g .own-four;
-      incoming-four = g .incoming-four;
-      own = λ p l.
-          set-every (λ p (a : Own). OwnHolds after p (a .stage) (f p)) (x .own) freshOwn q o
-          (λ p l ne.
-          let j : p < 4 = omega (arith, g .own-four) in
-          own-spared room after (message.Reply q) sp p j (λ e. ne cc) (ownPlace x p .stage) (f p)
-          (subst (OwnHolds room p (ownPlace x p .stage)) (sym (same p ne)) (g .own p j)))
-          here
-          p
-          (omega (arith, g .own-four));
-      incoming = λ p l. incoming-spared room after (message.Reply q) sp p l (apart (message.Reply q) (message.Incoming p) (λ e. omega arith)) (incomingPlace x p .stage) (s .messages p) (g .incoming p l);
-      sends = send-spared room after (message.Reply q) sp (apart (message.Reply q) message.Send (λ e. omega arith)) (x .sending) (s .outgoing) (g .sends);
-    }
+-- a place is put anew; of these places f is joined
+abbrev putIn : (z : Side) → Exchange → ℕ → Place z → Exchange
+putIn side.own = putOwn
+putIn side.incoming = putIncoming
 
--- an incoming place is put anew, and no area but its own is written
-pub put-incoming : (x : Exchange) (room after : List ℕ) (s : Joined) (q : ℕ) (i : Incoming) (f : ℕ → List ℕ) → Good x room s → Spares room after (message.Incoming q)
-    → ((p : ℕ) → (p ≡ q → ⊥) → f p ≡ s .messages p) → IncomingHolds after q (i .stage) (f q)
-    → Good (putIncoming x q i) after (record { replies = s .replies; messages = f; outgoing = s .outgoing })
-unfolding putIncoming
-put-incoming x room after s q i f g sp same here =
-    record {
-      whole = sp .whole;
-      own-four = g .own-four;
-      incoming-four = length-set (x .incoming) q i ∙ g .incoming-four;
-      own = λ p l. own-spared room after (message.Incoming q) sp p l (apart (message.Incoming q) (message.Reply p) (λ e. omega arith)) (ownPlace x p .stage) (s .replies p) (g .own p l);
-      incoming = λ p l.
-          set-every (λ p (a : Incoming). IncomingHolds after p (a .stage) (f p)) (x .incoming) freshIncoming q i
-          (λ p l ne.
-          let j : p < 4 = omega (arith, g .incoming-four) in
-          incoming-spared room after (message.Incoming q) sp p j (λ e. ne cc) (incomingPlace x p .stage) (f p)
-          (subst (IncomingHolds room p (incomingPlace x p .stage)) (sym (same p ne)) (g .incoming p j)))
-          here
-          p
-          (omega (arith, g .incoming-four));
-      sends = send-spared room after (message.Incoming q) sp (apart (message.Incoming q) message.Send (λ e. omega arith)) (x .sending) (s .outgoing) (g .sends);
-    }
+abbrev joinedIn : Side → Joined → ℕ → List ℕ
+joinedIn side.own s = s .replies
+joinedIn side.incoming s = s .messages
 
--- another message is being sent, or none, and no area but the send area is written
-pub put-sending : (x : Exchange) (room after : List ℕ) (s : Joined) (q : Sending) (out : List ℕ) → Good x room s → Spares room after message.Send → SendHolds after q out
-    → Good (withSending x q) after (record { replies = s .replies; messages = s .messages; outgoing = out })
-unfolding withSending
-put-sending x room after s q out g sp here =
-    record {
-      whole = sp .whole;
-      own-four = g .own-four;
-      incoming-four = g .incoming-four;
-      own = λ p l. own-spared room after message.Send sp p l (apart message.Send (message.Reply p) (λ e. omega arith)) (ownPlace x p .stage) (s .replies p) (g .own p l);
-      incoming = λ p l. incoming-spared room after message.Send sp p l (apart message.Send (message.Incoming p) (λ e. omega arith)) (incomingPlace x p .stage) (s .messages p) (g .incoming p l);
-      sends = here;
-    }
+abbrev rejoined : Side → Joined → (ℕ → List ℕ) → Joined
+rejoined side.own s f = record { replies = f; messages = s .messages; outgoing = s .outgoing }
+rejoined side.incoming s f = record { replies = s .replies; messages = f; outgoing = s .outgoing }
+
+-- place q's data anew, and no other's
+pub anew-here : (f : ℕ → List ℕ) (q : ℕ) (bs : List ℕ) → anew f q bs q ≡ bs
+anew-here f q bs = rw (eq-eqb q q refl)
+
+anew-else : (f : ℕ → List ℕ) (q : ℕ) (bs : List ℕ) (p : ℕ) → (p ≡ q → ⊥) → anew f q bs p ≡ f p
+anew-else f q bs p ne = rw (ne-eqb p q ne)
+
+module _ (x : Exchange) (room : List ℕ) (s : Joined) (g : Good x room s) where
+  -- no area but the place's own is written
+  put : {after : List ℕ} (z : Side) (q : ℕ) (o : Place z) (f : ℕ → List ℕ) → Spares room after (area z q) → ((p : ℕ) → (p ≡ q → ⊥) → f p ≡ joinedIn z s p)
+      → Holds z after q o (f q) → Good (putIn z x q o) after (rejoined z s f)
+  unfolding putOwn putIncoming
+  put side.own q o f sp same here = record {
+    whole = sp .whole;
+    own = one (g .own) q o f sp same here;
+    incoming = elsewhere (g .incoming) sp (λ p. apart _ _ (λ e. omega arith));
+    sends = send-spared room _ _ sp (apart _ _ (λ e. omega arith)) (x .sending) (s .outgoing) (g .sends);
+  }
+  put side.incoming q i f sp same here = record {
+    whole = sp .whole;
+    own = elsewhere (g .own) sp (λ p. apart _ _ (λ e. omega arith));
+    incoming = one (g .incoming) q i f sp same here;
+    sends = send-spared room _ _ sp (apart _ _ (λ e. omega arith)) (x .sending) (s .outgoing) (g .sends);
+  }
+
+  -- nothing is written, nor joined
+  pub only : (z : Side) (p : ℕ) (o : Place z) → Holds z room p o (joinedIn z s p) → Good (putIn z x p o) room (rejoined z s (joinedIn z s))
+  only z p o = put z p o (joinedIn z s) (spares-same room (area z p) (g .whole)) (λ q ne. refl)
+
+  -- bs is joined there
+  pub joined : {after : List ℕ} (z : Side) (p : ℕ) (bs : List ℕ) (o : Place z) → Spares room after (area z p) → Holds z after p o bs
+      → Good (putIn z x p o) after (rejoined z s (anew (joinedIn z s) p bs))
+  joined {after} z p bs o sp h = put z p o (anew (joinedIn z s) p bs) sp (anew-else (joinedIn z s) p bs) (subst (Holds z after p o) (sym (anew-here (joinedIn z s) p bs)) h)
+
+  -- another message is being sent, or none, and no area but the send area is written
+  pub put-sending : {after : List ℕ} (q : Sending) (out : List ℕ) → Spares room after message.Send → SendHolds after q out
+      → Good (withSending x q) after (record { replies = s .replies; messages = s .messages; outgoing = out })
+  unfolding withSending
+  put-sending q out sp here = record {
+    whole = sp .whole;
+    own = elsewhere (g .own) sp (λ p. apart _ _ (λ e. omega arith));
+    incoming = elsewhere (g .incoming) sp (λ p. apart _ _ (λ e. omega arith));
+    sends = here;
+  }
 
 -- ---- a block
 
@@ -147,62 +177,34 @@ pub offered-kept : (i : Incoming) (b : Header) (n : ℕ) → incomingTakes i b �
 unfolding incomingOffered goesOn
 offered-kept i b n t = rw t
 
--- a place is put anew and nothing is written
-module _ (x : Exchange) (room : List ℕ) (s : Joined) (g : Good x room s) (p : ℕ) where
-  pub own-only : (o : Own) → OwnHolds room p (o .stage) (s .replies p) → Good (putOwn x p o) room s
-  own-only o h = put-own x room room s p o (s .replies) g (spares-same room (message.Reply p) (g .whole)) (λ q ne. refl) h
-
-  pub incoming-only : (i : Incoming) → IncomingHolds room p (i .stage) (s .messages p) → Good (putIncoming x p i) room s
-  incoming-only i h = put-incoming x room room s p i (s .messages) g (spares-same room (message.Incoming p) (g .whole)) (λ q ne. refl) h
-
--- a place is put anew, and data is kept in its area: bs is then joined there
-module _ (x : Exchange) (room : List ℕ) (s : Joined) (g : Good x room s) (p have : ℕ) (d bs : List ℕ) where
-  -- with the data of a reply
-  abbrev replyJoined : Joined
-  replyJoined = record { replies = anew (s .replies) p bs; messages = s .messages; outgoing = s .outgoing }
-
-  own-kept : (o : Own) → OwnHolds (keptIn room (message.Reply p) have d) p (o .stage) bs → Good (putOwn x p o) (keptIn room (message.Reply p) have d) replyJoined
-  own-kept o h =
-      put-own x room (keptIn room (message.Reply p) have d) s p o (anew (s .replies) p bs) g (spares-kept room (message.Reply p) have d (g .whole)) (anew-else (s .replies) p bs)
-      (subst (OwnHolds (keptIn room (message.Reply p) have d) p (o .stage)) (sym (anew-here (s .replies) p bs)) h)
-
-  -- with the data of a message
-  abbrev messageJoined : Joined
-  messageJoined = record { replies = s .replies; messages = anew (s .messages) p bs; outgoing = s .outgoing }
-
-  pub incoming-kept : (i : Incoming) → IncomingHolds (keptIn room (message.Incoming p) have d) p (i .stage) bs → Good (putIncoming x p i) (keptIn room (message.Incoming p) have d) messageJoined
-  incoming-kept i h =
-      put-incoming x room (keptIn room (message.Incoming p) have d) s p i (anew (s .messages) p bs) g (spares-kept room (message.Incoming p) have d (g .whole)) (anew-else (s .messages) p bs)
-      (subst (IncomingHolds (keptIn room (message.Incoming p) have d) p (i .stage)) (sym (anew-here (s .messages) p bs)) h)
-
 module _ (x : Exchange) (room : List ℕ) (s : Joined) (g : Good x room s) (p : ℕ) (k : p < 4) (b : Header) (d : List ℕ) where
   abbrev Replied : Fate → Type 0
   Replied f =
       Good (putOwn x p (repliedBy (ownPlace x p) b f)) (keepBy f room (message.Reply p) (ownKept (ownPlace x p) .length) d)
-      (ifKept (noteBy f) s (replyJoined x room s g p (ownKept (ownPlace x p) .length) d (s .replies p ++ d)))
+      (ifKept (noteBy f) s (rejoined side.own s (anew (s .replies) p (s .replies p ++ d))))
 
   pub reply-joined : ownTakes (ownPlace x p) b ≡ true → Replied (fateOf b (ownKept (ownPlace x p) .length) (length d))
   unfolding ended
   reply-joined t =
       let o = ownPlace x p in
-      let has = own-has room p (s .replies p) (g .whole) k b (o .header) (o .stage) t (g .own p k) in
+      let has = own-has room p (s .replies p) (g .whole) k b (o .header) (o .stage) t (g .own .each p k) in
       by-fate b (ownKept o .length) (length d) Replied
-      (λ l. own-only x room s g p _ (λ e. absurd (false≢true e)))
-      (λ l m. own-only x room s g p _ (λ e. absurd (false≢true e)))
-      (λ l e fits. own-kept x room s g p (ownKept o .length) d (s .replies p ++ d) _ (λ v. fills-more room (message.Reply p) (ownKept o .length) (s .replies p) d (g .whole) k fits has))
-      (λ l e fits some. own-kept x room s g p (ownKept o .length) d (s .replies p ++ d) _ (fills-more room (message.Reply p) (ownKept o .length) (s .replies p) d (g .whole) k fits has))
+      (λ l. only x room s g side.own p _ (λ e. absurd (false≢true e)))
+      (λ l m. only x room s g side.own p _ (λ e. absurd (false≢true e)))
+      (λ l e fits. joined x room s g side.own p (s .replies p ++ d) _ (spares-kept room (message.Reply p) (ownKept o .length) d (g .whole)) (λ v. fills-more room (message.Reply p) (ownKept o .length) (s .replies p) d (g .whole) k fits has))
+      (λ l e fits some. joined x room s g side.own p (s .replies p ++ d) _ (spares-kept room (message.Reply p) (ownKept o .length) d (g .whole)) (fills-more room (message.Reply p) (ownKept o .length) (s .replies p) d (g .whole) k fits has))
 
   abbrev Continued : Fate → Type 0
   Continued f =
       Good (putIncoming x p (keptBy (incomingPlace x p) b f)) (keepBy f room (message.Incoming p) (incomingLength (incomingPlace x p)) d)
-      (ifKept (noteBy f) s (messageJoined x room s g p (incomingLength (incomingPlace x p)) d (s .messages p ++ d)))
+      (ifKept (noteBy f) s (rejoined side.incoming s (anew (s .messages) p (s .messages p ++ d))))
 
   pub message-joined : incomingTakes (incomingPlace x p) b ≡ true → Continued (fateOf b (incomingLength (incomingPlace x p)) (length d))
   message-joined t =
       let i = incomingPlace x p in
-      let has = incoming-has room p (s .messages p) b (i .header) (i .stage) t (g .incoming p k) in
+      let has = incoming-has room p (s .messages p) b (i .header) (i .stage) t (g .incoming .each p k) in
       by-fate b (incomingLength i) (length d) Continued
-      (λ l. incoming-only x room s g p _ tt)
-      (λ l m. incoming-only x room s g p _ tt)
-      (λ l e fits. incoming-kept x room s g p (incomingLength i) d (s .messages p ++ d) _ (fills-more room (message.Incoming p) (incomingLength i) (s .messages p) d (g .whole) k fits has))
-      (λ l e fits some. incoming-kept x room s g p (incomingLength i) d (s .messages p ++ d) _ (fills-more room (message.Incoming p) (incomingLength i) (s .messages p) d (g .whole) k fits has))
+      (λ l. only x room s g side.incoming p _ tt)
+      (λ l m. only x room s g side.incoming p _ tt)
+      (λ l e fits. joined x room s g side.incoming p (s .messages p ++ d) _ (spares-kept room (message.Incoming p) (incomingLength i) d (g .whole)) (fills-more room (message.Incoming p) (incomingLength i) (s .messages p) d (g .whole) k fits has))
+      (λ l e fits some. joined x room s g side.incoming p (s .messages p ++ d) _ (spares-kept room (message.Incoming p) (incomingLength i) d (g .whole)) (fills-more room (message.Incoming p) (incomingLength i) (s .messages p) d (g .whole) k fits has))

@@ -1,20 +1,19 @@
 -- What a block does to the place of its message, by rules 4, 5 and 7 (`specs/Rules.antt`). Assumes nothing.
-use Prim.Native.Nat.{ℕ, zero, suc, _+_, _<_}
+use Prim.Native.Nat.{ℕ, zero, suc}
 use mathlib.Core.Path.{_≡_, refl, sym, ap, subst, _∙_}
-use mathlib.Core.Bool.{Bool, true, false, cond, false≢true}
+use mathlib.Core.Bool.{Bool, true, false, cond}
 use mathlib.Core.List.{List}
-use mathlib.Core.Logic.{⊎-elim}
+use mathlib.Core.Logic.{_⊎_, inl, inr, ⊎-elim}
 use native.Mathlib.Omega.{arith}
 use lib.ListN.{length}
-use Rattle.wire.specs.Message.{messageLimit}
 use Rattle.wire.proofs.Choice.{chosen}
 use Rattle.header.specs.Header.{headerOf}
 use Rattle.header.specs.declared.header.Header.{Header}
-use Rattle.place.specs.Message.{LacksData}
 use Rattle.place.specs.Fate.{beginsPrimary, fateOf}
 use Rattle.place.specs.Own.{ended, ownKept, ownHasVerdict, ownTakes, repliedBy, replied, ownOffered}
 use Rattle.place.specs.Incoming.{incomingLength, incomingTakes, keptBy, goesOn, incomingOffered}
 use Rattle.place.proofs.Messages.{by-fate}
+use Rattle.place.specs.declared.Fate.the-variants as fate
 use Rattle.place.specs.declared.Own.{Own}
 use Rattle.place.specs.declared.Incoming.{Incoming}
 use Rattle.table.specs.Own.{replyFor}
@@ -23,11 +22,12 @@ use Rattle.table.specs.declared.Found.{Found}
 use Rattle.table.specs.declared.Found.the-variants.{At, Nowhere}
 use Rattle.exchange.specs.Flags.{noMarks, markAt, noFlags, verdictFlag, incomingFlags}
 use Rattle.exchange.specs.Exchange.{ownPlace, incomingPlace, gotVerdict, savedNow}
-use Rattle.exchange.specs.Judge.{thrown, repliedAs, replyBlock, continuedAs, messageBlock, primaryBy, primaryBlock, orPrimary, ofMessage, noReplyBlock, ofReply, newBlock, judgeOf}
+use Rattle.exchange.specs.Judge.{thrown, repliedAs, replyBlock, continuedAs, messageBlock, primaryBlock, orPrimary, ofMessage, noReplyBlock, ofReply, newBlock, judgeOf}
 use Rattle.exchange.specs.Rules.{OfReply, first, further, replyBytes, messageBytes, bytesBefore, BytesBefore, Untouched, Spoils, ReplyGoes, ReplyBlock, MessageGoes, MessageBlock, NoPlaceTaken}
 use Rattle.exchange.specs.declared.Exchange.{Exchange}
 use Rattle.exchange.proofs.Judging as test
 use Rattle.exchange.proofs.Leaving.{passes}
+use Rattle.exchange.proofs.Outcomes.{fate-kept}
 
 -- ---- what is kept before a block
 
@@ -45,7 +45,7 @@ bytes-before x b four = record {
 -- ---- flags
 
 -- a place that is not marked
-no-mark : (p : ℕ) → markAt p false ≡ noMarks
+pub no-mark : (p : ℕ) → markAt p false ≡ noMarks
 no-mark zero = refl
 no-mark (suc zero) = refl
 no-mark (suc (suc zero)) = refl
@@ -58,9 +58,11 @@ no-verdict-flag p = λ k. record { verdicts = no-mark p k; completed = noMarks; 
 no-incoming-flag : (p : ℕ) → incomingFlags p false false ≡ noFlags
 no-incoming-flag p = λ k. record { verdicts = noMarks; completed = no-mark p k; dropped = no-mark p k }
 
--- a block that is kept spoils nothing
-unspoilt : (b : Header) (have : ℕ) (d : List ℕ) → (LacksData b (length d) → ⊥) → (messageLimit < have + length d → ⊥) → Spoils b have d → ⊥
-unspoilt b have d has fits s = ⊎-elim has fits s
+-- the fate of a block that spoils its message
+spoils : (b : Header) (have : ℕ) (d : List ℕ) → Spoils b have d → (fateOf b have (length d) ≡ fate.Empty) ⊎ (fateOf b have (length d) ≡ fate.TooLong)
+spoils b have d s =
+    by-fate b have (length d) (λ f. (f ≡ fate.Empty) ⊎ (f ≡ fate.TooLong)) (λ l. inl refl) (λ has long. inr refl)
+    (λ has e fits. absurd (⊎-elim has (λ long. omega arith) s)) (λ has e fits some. absurd (⊎-elim has (λ long. omega arith) s))
 
 -- what is chosen where the test holds
 held : {A : Type 0} (t : Bool) (a b : A) → t ≡ true → cond t a b ≡ a
@@ -85,32 +87,15 @@ reply-goes :
     (fateOf (headerOf h) (ownKept (ownPlace x p) .length) (length d)) d room)
 unfolding ended
 reply-goes x h d room p v =
-    by-fate (headerOf h) (ownKept (ownPlace x p) .length) (length d)
-    (λ f. ReplyGoes x h d room p (ownKept (ownPlace x p) .length) (repliedAs (savedNow x h) p (ownPlace x p) (repliedBy (ownPlace x p) (headerOf h) f) f d room))
-    (λ lacks.
+    let b = headerOf h in
+    let have = ownKept (ownPlace x p) .length in
     record {
-      broken = λ s. record { state = refl; flags = flagged p _ _ true v refl; bytes = refl };
-      complete = λ w e. absurd (w .has-data lacks);
-      more = λ w e. absurd (w .has-data lacks);
-    })
-    (λ has long.
-    record {
-      broken = λ s. record { state = refl; flags = flagged p _ _ true v refl; bytes = refl };
-      complete = λ w e. absurd (omega (arith, w .fits));
-      more = λ w e. absurd (omega (arith, w .fits));
-    })
-    (λ has ends fits.
-    record {
-      broken = λ s. absurd (unspoilt (headerOf h) _ d has (λ l. omega arith) s);
-      complete = λ w e. record { state = refl; flags = flagged p _ _ true v refl; bytes = refl };
-      more = λ w e. absurd (false≢true (sym e ∙ ends));
-    })
-    (λ has ends fits some.
-    record {
-      broken = λ s. absurd (unspoilt (headerOf h) _ d has (λ l. omega arith) s);
-      complete = λ w e. absurd (false≢true (sym ends ∙ e));
-      more = λ w e. record { state = refl; flags = flagged p _ _ false v refl ∙ no-verdict-flag p; bytes = refl };
-    })
+      broken = λ s.
+          ⊎-elim (λ f. rw f (record { state = refl; flags = flagged p _ _ true v refl; bytes = refl })) (λ f. rw f (record { state = refl; flags = flagged p _ _ true v refl; bytes = refl }))
+          (spoils b have d s);
+      complete = λ w e. rw (fate-kept b have (length d) (w .has-data) (w .fits), e) (record { state = refl; flags = flagged p _ _ true v refl; bytes = refl });
+      more = λ w e. rw (fate-kept b have (length d) (w .has-data) (w .fits), e) (record { state = refl; flags = flagged p _ _ false v refl ∙ no-verdict-flag p; bytes = refl });
+    }
 
 pub reply-block : ReplyBlock
 unfolding newBlock replyBlock ownOffered replied savedNow
@@ -149,32 +134,13 @@ message-goes :
     (keptBy (incomingPlace x p) (headerOf h) (fateOf (headerOf h) (incomingLength (incomingPlace x p)) (length d)))
     (fateOf (headerOf h) (incomingLength (incomingPlace x p)) (length d)) d room)
 message-goes x h d room p =
-    by-fate (headerOf h) (incomingLength (incomingPlace x p)) (length d)
-    (λ f. MessageGoes x h d room p (incomingLength (incomingPlace x p)) (continuedAs (savedNow x h) p (incomingPlace x p) (keptBy (incomingPlace x p) (headerOf h) f) f d room))
-    (λ lacks.
+    let b = headerOf h in
+    let have = incomingLength (incomingPlace x p) in
     record {
-      broken = λ s. record { state = refl; flags = refl; bytes = refl };
-      complete = λ w e. absurd (w .has-data lacks);
-      more = λ w e. absurd (w .has-data lacks);
-    })
-    (λ has long.
-    record {
-      broken = λ s. record { state = refl; flags = refl; bytes = refl };
-      complete = λ w e. absurd (omega (arith, w .fits));
-      more = λ w e. absurd (omega (arith, w .fits));
-    })
-    (λ has ends fits.
-    record {
-      broken = λ s. absurd (unspoilt (headerOf h) _ d has (λ l. omega arith) s);
-      complete = λ w e. record { state = refl; flags = refl; bytes = refl };
-      more = λ w e. absurd (false≢true (sym e ∙ ends));
-    })
-    (λ has ends fits some.
-    record {
-      broken = λ s. absurd (unspoilt (headerOf h) _ d has (λ l. omega arith) s);
-      complete = λ w e. absurd (false≢true (sym ends ∙ e));
-      more = λ w e. record { state = refl; flags = no-incoming-flag p; bytes = refl };
-    })
+      broken = λ s. ⊎-elim (λ f. rw f (record { state = refl; flags = refl; bytes = refl })) (λ f. rw f (record { state = refl; flags = refl; bytes = refl })) (spoils b have d s);
+      complete = λ w e. rw (fate-kept b have (length d) (w .has-data) (w .fits), e) (record { state = refl; flags = refl; bytes = refl });
+      more = λ w e. rw (fate-kept b have (length d) (w .has-data) (w .fits), e) (record { state = refl; flags = no-incoming-flag p; bytes = refl });
+    }
 
 pub message-block : MessageBlock
 unfolding newBlock noReplyBlock messageBlock incomingOffered goesOn savedNow
@@ -216,11 +182,7 @@ no-place-taken c x h d room four new none no-message s =
     subst (Untouched (savedNow x h) room) (sym judges)
     (chosen (Untouched (savedNow x h) room) (beginsPrimary (headerOf h)) (primaryBlock (savedNow x h) (headerOf h) d room) _
     (λ e.
-    by-fate (headerOf h) 0 (length d) (λ f. Untouched (savedNow x h) room (primaryBy f (savedNow x h) (headerOf h) d room))
-    (λ l. record { state = refl; flags = refl; bytes = refl })
-    (λ a l. record { state = refl; flags = refl; bytes = refl })
-    (λ has ends fits. absurd (unspoilt (headerOf h) 0 d has (λ l. omega arith) s))
-    (λ has ends fits some. absurd (unspoilt (headerOf h) 0 d has (λ l. omega arith) s)))
+    ⊎-elim (λ f. rw f (record { state = refl; flags = refl; bytes = refl })) (λ f. rw f (record { state = refl; flags = refl; bytes = refl })) (spoils (headerOf h) 0 d s))
     (λ e. record { state = refl; flags = refl; bytes = refl }))
   where
     judges : judgeOf c x h d room ≡ orPrimary (savedNow x h) (headerOf h) d room

@@ -1,12 +1,13 @@
--- `Alike`, `Tests`, `Finding`, `Judging`: the tests of the rules, and what each says. `Notes`, `Leaving`, `Keeping`: which note is answered,
--- and what judging leaves. `Refusing`, `Accepting`: which requests are refused, and what the others leave. `Table`: 01's numbers.
--- `Cases`: judging and the requests case by case; on it `BeingSent`: which calls start and end the message being sent; `SavedHeader`: which leave the saved header; `Tables`,
--- `Filling`, `Holding`, `Joining`, `Areas`: what the areas begin with after any calls. `AnyRoom`, `Runs`: any calls, each in any room.
--- `OneCall`: what one call does to a place, case by case; on it `Releases`: what stays until a release; `Watching`, `Inside`: each place
--- goes through events of a place, as its onlooker sees them. `Underway`, `Replies`: a request, and our reply, that is on its way.
--- `Flagging`, `Telling`, `Stilling`: what the flags tell, and a tick at which nothing happens. `Repeated`, `Outcomes`, `Blocks`, `Growing`,
--- `Assembling`, `Answering`: the blocks of a cut message, judged in order, are the message. `Numbering`, `Latest`: the transaction numbers.
--- `Ranges`: the ranges, field by field.
+-- `Alike`, `Tests`, `Finding`, `Judging`: the tests of the rules, and what each says. `Notes`, `Leaving`, `Keeping`: which note is
+-- answered, and what judging leaves. `Refusing`, `Accepting`: which requests are refused, and what the others leave. `Table`: 01's numbers.
+-- `Cases`: judging and the requests case by case; on it `BeingSent`: which calls start and end the message being sent; `SavedHeader`: which
+-- leave the saved header; `Tables`, `Filling`, `Holding`, `Joining`, `Areas`: what the areas begin with after any calls. `AnyRoom`, `Runs`:
+-- any calls, each in any room. `Sides`: own places and incoming ones, by side. `OneCall`: what one call does to a place of either, case by
+-- case; on it `Releases`: what stays until a release; `Watching`, `Inside`: each place goes through events of a place, as its onlooker sees
+-- them. `Underway`, `Replies`: a request, and our reply, that is on its way. `Flagging`, `Telling`, `Stilling`: what the flags tell, and a
+-- tick at which nothing happens. `Repeated`, `Outcomes`, `Blocks`, `Growing`, `Assembling`, `Answering`: the blocks of a cut message,
+-- judged in order, are the message. `Numbering`, `Latest`: the transaction numbers. `Places`: where no place is read, and where
+-- a reply is owed. `Ranges`: the ranges, field by field.
 pub mod Alike
 pub mod Tests
 pub mod Finding
@@ -21,6 +22,7 @@ pub mod Cases
 pub mod BeingSent
 pub mod SavedHeader
 pub mod Tables
+pub mod Sides
 pub mod Filling
 pub mod Holding
 pub mod Joining
@@ -45,3 +47,4 @@ pub mod Answering
 pub mod Stilling
 pub mod Numbering
 pub mod Latest
+pub mod Places

@@ -13,17 +13,14 @@ use Rattle.header.specs.declared.header.Header.{Header}
 use Rattle.settings.specs.declared.terms.Terms.{Terms}
 use Rattle.place.specs.Fate.{fateOf}
 use Rattle.place.specs.Message.{Routed}
-use Rattle.place.specs.Own.{freshOwn, givenBy, ownStanding, ownKept, ownTakes}
+use Rattle.place.specs.Own.{givenBy, ownStanding}
 use Rattle.place.specs.OwnHistory as own
-use Rattle.place.specs.OwnTheorems as owns
-use Rattle.place.specs.Incoming.{freshIncoming, incomingLength, incomingTakes, freeAt, openAt, completeAt, repliedAt}
+use Rattle.place.specs.Incoming.{freeAt, openAt, completeAt, repliedAt}
 use Rattle.place.specs.IncomingHistory as incoming
-use Rattle.place.specs.IncomingTheorems as incomings
 use Rattle.place.specs.declared.Fate.{Fate}
 use Rattle.place.specs.declared.Fate.the-variants as fate
 use Rattle.place.specs.declared.Standing.{Standing}
 use Rattle.place.specs.declared.Standing.the-variants as standing
-use Rattle.place.specs.declared.Own.{Own}
 use Rattle.place.specs.declared.IncomingStage.{IncomingStage}
 use Rattle.place.specs.declared.IncomingStage.the-variants as arrival
 use Rattle.place.specs.declared.Incoming.{Incoming}
@@ -40,11 +37,12 @@ use Rattle.exchange.specs.Send.{endedOwn, endedReply, sentBy, failedBy}
 use Rattle.exchange.specs.Judge.{thrown, isMisrouted, spoiltBy, replyBlock, messageBlock, beginsAt, judgeOf}
 use Rattle.exchange.specs.Request.{notReady, refusedBy, refused, claimedAt, replyAccepted, Request, answerOf}
 use Rattle.exchange.specs.History.{Call, block, tick, acknowledged, failed, request, called}
-use Rattle.exchange.specs.Releases.{releases, frees}
+use Rattle.exchange.specs.Releases.{Side, releases, frees}
 use Rattle.exchange.specs.Releases as side
-use Rattle.exchange.specs.Watching.{toldBy, foundAt, takenAt, sentFrom, ownTaken, ownSees, takenBy, seesBlock, freedSeen, incomingTaken, incomingSees}
+use Rattle.exchange.specs.Watching.{toldBy, foundAt, takenAt, sentFrom, ownTaken, takenBy, seesBlock, freedSeen, incomingTaken}
 use Rattle.exchange.proofs.Cases.{Thrown, stray, no-place, too-long, empty, Takes, by-judge, by-request}
 use Rattle.exchange.proofs.Tables.{set-one}
+use Rattle.exchange.proofs.Sides.{Place, Event, Seen, fresh, nothingSeen, step, sees, spares, table, place, watches, Happens, nothing, event, by-event}
 use Rattle.exchange.proofs.Judging.{routed}
 use Rattle.exchange.proofs.Areas.{taken-place}
 use Rattle.exchange.specs.declared.Note.{Note}
@@ -69,19 +67,12 @@ unfolding isMisrouted
 right-way c b e = routed c b .0 (not-false _ e)
 
 -- the note of a block that a place takes tells what became of it
-told : (f : Fate) → own.answerBy f ≡ toldBy (noteBy f)
-told fate.Empty = refl
-told fate.TooLong = refl
-told (fate.Last n) = refl
-told (fate.More n) = refl
-
-own-told : (o : Own) (b : Header) (n : ℕ) → ownTakes o b ≡ true → own.answerTo o b n ≡ toldBy (noteBy (fateOf b (ownKept o .length) n))
-unfolding own.answerTo
-own-told o b n t = rw t (told (fateOf b (ownKept o .length) n))
-
-next-told : (i : Incoming) (b : Header) (n : ℕ) → incomingTakes i b ≡ true → incoming.answerNext i b n ≡ toldBy (noteBy (fateOf b (incomingLength i) n))
-unfolding incoming.answerNext
-next-told i b n t = rw t (told (fateOf b (incomingLength i) n))
+told : (t : Bool) (f : Fate) → t ≡ true → toldBy (noteBy f) ≡ cond t (own.answerBy f) own.passed
+told true fate.Empty e = refl
+told true fate.TooLong e = refl
+told true (fate.Last n) e = refl
+told true (fate.More n) e = refl
+told false f e = absurd (false≢true e)
 
 -- a first block that is not spoilt is kept where no message is complete
 kept-first : (f : Fate) → spoiltBy f ≡ false → own.answerBy f ≡ own.kept
@@ -102,82 +93,15 @@ first-told : (i : Incoming) (b : Header) (n : ℕ) → (freeAt (i .stage) ≡ tr
 unfolding incoming.answerFirst
 first-told i b n e u = begins-there (i .stage) _ e ∙ kept-first (fateOf b 0 n) u
 
--- ---- an own place
+-- ---- which releases are accepted
 
--- a release is accepted where a verdict is shown
+-- of an own place, where a verdict is shown
 own-freed : (z : Standing) (s : own.Seen) → givenBy z ≡ true → own.freed z s ≡ own.at s own.none
 own-freed standing.Free s e = absurd (false≢true e)
 own-freed standing.Open s e = absurd (false≢true e)
 own-freed (standing.Given v) s e = refl
 
--- P holds of the place and of what is seen of it; `Steps t`: it does after any event there that is a release exactly if t is true
-module _ (c : Terms) (x : Exchange) (four : length (x .own) ≡ 4) (p : ℕ) (k : p < 4) (s : own.Seen) (P : Own → own.Seen → Type 0) (same : P (ownPlace x p) s) where
-  abbrev OwnSteps : Bool → Type 0
-  OwnSteps t = (e : own.Event c) → owns.spares e ≡ not t → P (own.step (ownPlace x p) e) (own.sees (ownPlace x p) s e)
-
-  -- an event at place q
-  own-put : (q : ℕ) (e : own.Event c) → (q ≡ p → P (own.step (ownPlace x p) e) (own.sees (ownPlace x p) s e))
-      → P (getD (set (x .own) q (own.step (ownPlace x q) e)) p freshOwn) (cond (eqb q p) (own.sees (ownPlace x q) s e) s)
-  own-put q e here =
-      set-one (λ t (o : Own). P o (cond t (own.sees (ownPlace x q) s e) s)) (x .own) freshOwn q _ p (omega arith) (λ z. rw z (here z)) same
-
-  module _ (more : OwnSteps false) where
-    own-block : (room h d : List ℕ) → P (ownPlace (judgeOf c x h d room .answer .exchange) p) (ownSees c p x room s (block h d))
-    unfolding thrown replyBlock messageBlock beginsAt savedNow putOwn putIncoming
-    own-block room h d =
-        let b = headerOf h in
-        by-judge c x h d room
-        (λ j. P (ownPlace (j .answer .exchange) p) (cond (foundAt (replyFor (x .own) b) p) (own.answered (toldBy (j .answer .note)) s b (length d)) s))
-        (λ e. rw same-either same) (λ e u. rw same-either same)
-        (λ q e r.
-        let v = own.block b (length d) (right-way c b e) in
-        rw (r, ← own-told (ownPlace x q) b (length d) (reply-lowest (x .own) b four .at q .0 r .1)) (own-put q v (λ z. more v refl)))
-        (λ q e r m. rw r same) (λ q gone f e r m o v u t. rw r same) (λ n t r m. rw r same)
-
-    own-ticked : P (ownPlace (tickOf c x .exchange) p) (ownSees c p x [] s tick)
-    unfolding tickOf
-    own-ticked = rw (own-table (x .own) c four .1 .each p k) (more own.tick refl)
-
-    own-acknowledged : (q : Sending) → P (ownPlace (sentBy q x .exchange) p) (cond (sentFrom q p) (own.acked (s .request) s) s)
-    unfolding endedOwn endedReply putOwn putIncoming withSending
-    own-acknowledged sending.Nothing = same
-    own-acknowledged (sending.Primary q n) = own-put q own.sent (λ z. more own.sent refl)
-    own-acknowledged (sending.Reply q f n) = same
-
-    own-failed : (q : Sending) → P (ownPlace (failedBy q x .exchange) p) (cond (sentFrom q p) (own.gaveUp (s .request) s) s)
-    unfolding endedOwn endedReply putOwn putIncoming withSending
-    own-failed sending.Nothing = same
-    own-failed (sending.Primary q n) = own-put q own.failed (λ z. more own.failed refl)
-    own-failed (sending.Reply q f n) = same
-
-  own-request : (room : List ℕ) (r : Request) → OwnSteps (releases r side.own p)
-      → P (ownPlace (answerOf c x r room .answer .exchange) p) (ownSees c p x room s (request r))
-  unfolding refused refusedBy claimedAt replyAccepted putOwn putIncoming withSending
-  own-request room =
-      by-request c x room
-      (λ r a. OwnSteps (releases r side.own p) → P (ownPlace (a .answer .exchange) p) (cond (takenAt (a .answer .asked) p) (ownTaken c x s r) s)) (λ r n m. same)
-      (λ q d i u e m. own-put i (own.claim _) (λ z. m (own.claim _) refl)) (λ q f d u a b m. rw same-either same)
-      (λ q e m. rw (← own-freed (ownStanding (ownPlace x q)) s e) (own-put q own.release (λ z. m own.release (sym (ap not (eq-eqb q p z))))))
-      (λ q e m. rw same-either same)
-
-  -- after any call: the event is a release exactly if the call asks for it
-  pub own-call : (room : List ℕ) (j : Call) → OwnSteps (frees j side.own p) → P (ownPlace (called c x room j .exchange) p) (ownSees c p x room s j)
-  own-call room (block h d) more = own-block more room h d
-  own-call room tick more = own-ticked more
-  own-call room acknowledged more = own-acknowledged more (x .sending)
-  own-call room failed more = own-failed more (x .sending)
-  own-call room (request r) more = own-request room r more
-
--- of the place alone: after any call but one for its release
-pub own-changed : (c : Terms) (x : Exchange) (room : List ℕ) → length (x .own) ≡ 4 → (p : ℕ) → p < 4 → (P : Own → Type 0) → P (ownPlace x p)
-    → ((e : own.Event c) → owns.spares e ≡ true → P (own.step (ownPlace x p) e))
-    → (j : Call) → frees j side.own p ≡ false → P (ownPlace (called c x room j .exchange) p)
-own-changed c x room four p k P same more j n =
-    own-call c x four p k own.nothingSeen (λ o s. P o) same room j (λ e i. more e (i ∙ ap not n))
-
--- ---- an incoming place
-
--- a release is accepted of a complete message whose reply is not on its way
+-- of a complete message whose reply is not on its way
 incoming-freed : (z : IncomingStage) (s : incoming.Seen) → not (completeAt z) && not (repliedAt z) ≡ false
     → incoming.seesRelease (incoming.showsAt z) s ≡ freedSeen s
 incoming-freed arrival.Free s e = absurd (false≢true (sym e))
@@ -185,6 +109,8 @@ incoming-freed (arrival.Open a) s e = absurd (false≢true (sym e))
 incoming-freed (arrival.Complete n) s e = refl
 incoming-freed (arrival.Replying n) s e = absurd (false≢true (sym e))
 incoming-freed (arrival.Replied n y) s e = refl
+
+-- ---- which blocks are for an incoming place
 
 -- the place that a new primary takes
 takes-found : (x : Exchange) (b : Header) (q : ℕ) (gone : Bool) → Takes x b q gone → takenBy (openAlike (x .incoming) b) (freeIncoming (x .incoming)) ≡ At q
@@ -203,74 +129,107 @@ thrown-first _ no-place s b size = refl
 thrown-first _ too-long s b size = refl
 thrown-first _ empty s b size = refl
 
-module _ (c : Terms) (x : Exchange) (four : length (x .incoming) ≡ 4) (p : ℕ) (k : p < 4) (s : incoming.Seen) (P : Incoming → incoming.Seen → Type 0) (same : P (incomingPlace x p) s) where
-  abbrev IncomingSteps : Bool → Type 0
-  IncomingSteps t = (e : incoming.Event c) → incomings.spares e ≡ not t → P (incoming.step (incomingPlace x p) e) (incoming.sees (incomingPlace x p) s e)
+-- ---- one call
+
+module _ (c : Terms) (x : Exchange) (p : ℕ) (k : p < 4) where
+  -- what a call that leaves y does at place p on side z: `look` is what is seen of it there; it is a release exactly if t is true
+  abbrev Does : (z : Side) → Bool → Exchange → (Seen z → Seen z) → Type 0
+  Does z t y look = length (table z x) ≡ 4 → (s : Seen z) → Happens z c (place z x p) s t (place z y p) (look s)
+
+  abbrev Both : (Side → Type 0) → Type 0
+  Both T = T side.own × T side.incoming
 
   -- an event at place q
-  incoming-put : (q : ℕ) (e : incoming.Event c) → (q ≡ p → P (incoming.step (incomingPlace x p) e) (incoming.sees (incomingPlace x p) s e))
-      → P (getD (set (x .incoming) q (incoming.step (incomingPlace x q) e)) p freshIncoming) (cond (eqb q p) (incoming.sees (incomingPlace x q) s e) s)
-  incoming-put q e here =
-      set-one (λ t (i : Incoming). P i (cond t (incoming.sees (incomingPlace x q) s e) s)) (x .incoming) freshIncoming q _ p (omega arith) (λ z. rw z (here z)) same
+  put : (z : Side) (t : Bool) (q : ℕ) (e : Event z c) → (q ≡ p → spares z c e ≡ not t) → length (table z x) ≡ 4 → (s : Seen z)
+      → Happens z c (place z x p) s t (getD (set (table z x) q (step z c (place z x q) e)) p (fresh z)) (cond (eqb q p) (sees z c (place z x q) s e) s)
+  put z t q e i four s =
+      set-one (λ b (o : Place z). Happens z c (place z x p) s t o (cond b (sees z c (place z x q) s e) s)) (table z x) (fresh z) q _ p (omega arith)
+      (λ j. rw j (event e (i j))) nothing
 
-  -- one of which nothing is seen
-  incoming-unseen : (q : ℕ) (e : incoming.Event c) → incoming.sees (incomingPlace x q) s e ≡ s → (q ≡ p → P (incoming.step (incomingPlace x p) e) (incoming.sees (incomingPlace x p) s e))
-      → P (getD (set (x .incoming) q (incoming.step (incomingPlace x q) e)) p freshIncoming) s
-  incoming-unseen q e n here = rw (n, same-either) at (incoming-put q e here)
+  judged : (room h d : List ℕ) → Both (λ z. Does z false (judgeOf c x h d room .answer .exchange) (λ s. watches z c p x room s (block h d)))
+  unfolding thrown replyBlock messageBlock beginsAt savedNow putOwn putIncoming own.answerTo incoming.answerNext
+  judged room h d =
+      let b = headerOf h in
+      let new = takenBy (openAlike (x .incoming) b) (freeIncoming (x .incoming)) in
+      by-judge c x h d room
+      (λ j.
+      let y = j .answer .exchange in
+      let a = toldBy (j .answer .note) in
+      Does side.own false y (λ s. cond (foundAt (replyFor (x .own) b) p) (own.answered a s b (length d)) s)
+      × Does side.incoming false y (λ s. seesBlock (replyFor (x .own) b) (messageFor (x .incoming) b) new p a s b (length d)))
+      (λ e. (λ four s. rw same-either nothing, λ four s. rw passed-by nothing)) (λ e u. (λ four s. rw same-either nothing, λ four s. rw passed-by nothing))
+      (λ q e r. (
+        λ four s.
+            rw (r, told _ _ (reply-lowest (x .own) b four .at q .0 r .1))
+            (put side.own false q (own.block b (length d) (right-way c b e)) (λ z. refl) four s),
+        λ four s. rw r nothing,
+      ))
+      (λ q e r m. (
+        λ four s. rw r nothing,
+        λ four s.
+            rw (r, m, told _ _ (message-lowest (x .incoming) b four .at q .0 m .1))
+            (put side.incoming false q (incoming.block b (length d) (right-way c b e)) (λ z. refl) four s),
+      ))
+      (λ q gone f e r m o v u t. (
+        λ four s. rw r nothing,
+        λ four s.
+            rw (r, m, takes-found x b q gone t)
+            (rw (first-told (incomingPlace x q) b (length d) (taken-place x b q gone four t .1) (ap spoiltBy v ∙ u)) at
+            (put side.incoming false q (incoming.begin b (length d) (right-way c b e) o) (λ z. refl) four s)),
+      ))
+      (λ n t r m. (λ four s. rw r nothing, λ four s. rw (r, m, thrown-first n t, same-either) nothing))
 
-  module _ (more : IncomingSteps false) where
-    incoming-block : (room h d : List ℕ) → P (incomingPlace (judgeOf c x h d room .answer .exchange) p) (incomingSees c p x room s (block h d))
-    unfolding thrown replyBlock messageBlock beginsAt savedNow putOwn putIncoming
-    incoming-block room h d =
-        let b = headerOf h in
-        let new = takenBy (openAlike (x .incoming) b) (freeIncoming (x .incoming)) in
-        by-judge c x h d room
-        (λ j. P (incomingPlace (j .answer .exchange) p) (seesBlock (replyFor (x .own) b) (messageFor (x .incoming) b) new p (toldBy (j .answer .note)) s b (length d)))
-        (λ e. rw passed-by same) (λ e u. rw passed-by same) (λ q e r. rw r same)
-        (λ q e r m.
-        let v = incoming.block b (length d) (right-way c b e) in
-        rw (r, m, ← next-told (incomingPlace x q) b (length d) (message-lowest (x .incoming) b four .at q .0 m .1)) (incoming-put q v (λ z. more v refl)))
-        (λ q gone f e r m o v u t.
-        let y = incoming.begin b (length d) (right-way c b e) o in
-        rw (r, m, takes-found x b q gone t)
-        (rw (first-told (incomingPlace x q) b (length d) (taken-place x b q gone four t .1) (ap spoiltBy v ∙ u)) at (incoming-put q y (λ z. more y refl))))
-        (λ n t r m. rw (r, m, thrown-first n t, same-either) same)
+  ticked : Both (λ z. Does z false (tickOf c x .exchange) (λ s. watches z c p x [] s tick))
+  unfolding tickOf
+  ticked = (
+    λ four s. rw (own-table (x .own) c four .1 .each p k) (event own.tick refl),
+    λ four s. rw (incoming-table (x .incoming) c four .1 .each p k) (event incoming.tick refl),
+  )
 
-    incoming-ticked : P (incomingPlace (tickOf c x .exchange) p) (incomingSees c p x [] s tick)
-    unfolding tickOf
-    incoming-ticked = rw (incoming-table (x .incoming) c four .1 .each p k) (more incoming.tick refl)
+  sent : (q : Sending) → Does side.own false (sentBy q x .exchange) (λ s. cond (sentFrom q p) (own.acked (s .request) s) s) × Does side.incoming false (sentBy q x .exchange) (λ s. s)
+  unfolding endedOwn endedReply putOwn putIncoming withSending
+  sent sending.Nothing = (λ four s. nothing, λ four s. nothing)
+  sent (sending.Primary q n) = (put side.own false q own.sent (λ z. refl), λ four s. nothing)
+  sent (sending.Reply q f n) = (λ four s. nothing, λ four s. rw same-either at (put side.incoming false q incoming.sent (λ z. refl) four s))
 
-    incoming-acknowledged : (q : Sending) → P (incomingPlace (sentBy q x .exchange) p) s
-    unfolding endedOwn endedReply putOwn putIncoming withSending
-    incoming-acknowledged sending.Nothing = same
-    incoming-acknowledged (sending.Primary q n) = same
-    incoming-acknowledged (sending.Reply q f n) = incoming-unseen q incoming.sent refl (λ z. more incoming.sent refl)
+  lost : (q : Sending) → Does side.own false (failedBy q x .exchange) (λ s. cond (sentFrom q p) (own.gaveUp (s .request) s) s) × Does side.incoming false (failedBy q x .exchange) (λ s. s)
+  unfolding endedOwn endedReply putOwn putIncoming withSending
+  lost sending.Nothing = (λ four s. nothing, λ four s. nothing)
+  lost (sending.Primary q n) = (put side.own false q own.failed (λ z. refl), λ four s. nothing)
+  lost (sending.Reply q f n) = (λ four s. nothing, λ four s. rw same-either at (put side.incoming false q incoming.failed (λ z. refl) four s))
 
-    incoming-failed : (q : Sending) → P (incomingPlace (failedBy q x .exchange) p) s
-    unfolding endedOwn endedReply putOwn putIncoming withSending
-    incoming-failed sending.Nothing = same
-    incoming-failed (sending.Primary q n) = same
-    incoming-failed (sending.Reply q f n) = incoming-unseen q incoming.failed refl (λ z. more incoming.failed refl)
-
-  incoming-request : (room : List ℕ) (r : Request) → IncomingSteps (releases r side.incoming p)
-      → P (incomingPlace (answerOf c x r room .answer .exchange) p) (incomingSees c p x room s (request r))
+  asked : (room : List ℕ) (r : Request) → Both (λ z. Does z (releases r z p) (answerOf c x r room .answer .exchange) (λ s. watches z c p x room s (request r)))
   unfolding refused refusedBy claimedAt replyAccepted putOwn putIncoming withSending notReady
-  incoming-request room =
+  asked room =
       by-request c x room
-      (λ r a. IncomingSteps (releases r side.incoming p) → P (incomingPlace (a .answer .exchange) p) (cond (takenAt (a .answer .asked) p) (incomingTaken s r) s)) (λ r n m. same)
-      (λ q d i u e m. rw same-either same) (λ q f d u a b m. incoming-put q incoming.answer (λ z. m incoming.answer refl)) (λ q e m. rw same-either same)
-      (λ q e m.
-      rw (incoming-freed (incomingPlace x q .stage) s e) at (incoming-put q incoming.release (λ z. m incoming.release (sym (ap not (eq-eqb q p z))))))
+      (λ r a.
+      let y = a .answer .exchange in
+      let here = takenAt (a .answer .asked) p in
+      Does side.own (releases r side.own p) y (λ s. cond here (ownTaken c x s r) s) × Does side.incoming (releases r side.incoming p) y (λ s. cond here (incomingTaken s r) s))
+      (λ r n. (λ four s. nothing, λ four s. nothing)) (λ q d i u e. (put side.own false i (own.claim _) (λ z. refl), λ four s. rw same-either nothing))
+      (λ q f d u a b. (λ four s. rw same-either nothing, put side.incoming false q incoming.answer (λ z. refl)))
+      (λ q e. (
+        λ four s. rw (← own-freed (ownStanding (ownPlace x q)) s e) (put side.own (eqb q p) q own.release (λ z. sym (ap not (eq-eqb q p z))) four s),
+        λ four s. rw same-either nothing,
+      ))
+      (λ q e. (
+        λ four s. rw same-either nothing,
+        λ four s. rw (incoming-freed (incomingPlace x q .stage) s e) at (put side.incoming (eqb q p) q incoming.release (λ z. sym (ap not (eq-eqb q p z))) four s),
+      ))
 
-  pub incoming-call : (room : List ℕ) (j : Call) → IncomingSteps (frees j side.incoming p) → P (incomingPlace (called c x room j .exchange) p) (incomingSees c p x room s j)
-  incoming-call room (block h d) more = incoming-block more room h d
-  incoming-call room tick more = incoming-ticked more
-  incoming-call room acknowledged more = incoming-acknowledged more (x .sending)
-  incoming-call room failed more = incoming-failed more (x .sending)
-  incoming-call room (request r) more = incoming-request room r more
+  calls : (room : List ℕ) (j : Call) → Both (λ z. Does z (frees j z p) (called c x room j .exchange) (λ s. watches z c p x room s j))
+  calls room (block h d) = judged room h d
+  calls room tick = ticked
+  calls room acknowledged = sent (x .sending)
+  calls room failed = lost (x .sending)
+  calls room (request r) = asked room r
 
-pub incoming-changed : (c : Terms) (x : Exchange) (room : List ℕ) → length (x .incoming) ≡ 4 → (p : ℕ) → p < 4 → (P : Incoming → Type 0) → P (incomingPlace x p)
-    → ((e : incoming.Event c) → incomings.spares e ≡ true → P (incoming.step (incomingPlace x p) e))
-    → (j : Call) → frees j side.incoming p ≡ false → P (incomingPlace (called c x room j .exchange) p)
-incoming-changed c x room four p k P same more j n =
-    incoming-call c x four p k incoming.nothingSeen (λ i s. P i) same room j (λ e i. more e (i ∙ ap not n))
+  -- any call, on either side: the event is a release exactly if the call asks for it
+  pub call : (z : Side) (room : List ℕ) (j : Call) → Does z (frees j z p) (called c x room j .exchange) (λ s. watches z c p x room s j)
+  call side.own room j = calls room j .0
+  call side.incoming room j = calls room j .1
+
+-- of the place alone: after any call but one for its release
+pub changed : (z : Side) (c : Terms) (x : Exchange) (room : List ℕ) → length (table z x) ≡ 4 → (p : ℕ) → p < 4 → (P : Place z → Type 0) → P (place z x p)
+    → ((e : Event z c) → spares z c e ≡ true → P (step z c (place z x p) e)) → (j : Call) → frees j z p ≡ false → P (place z (called c x room j .exchange) p)
+changed z c x room four p k P same more j n = by-event (λ o s. P o) (call c x p k z room j four (nothingSeen z)) same (λ e i. more e (i ∙ ap not n))

@@ -56,7 +56,7 @@ unfolding dataLong
 long d = (ltb-true _ _, lt-ltb _ _)
 
 -- 7
-sends : (s : Sending) → sendingBy s ≡ true ↔ (s ≢ sending.Nothing)
+pub sends : (s : Sending) → sendingBy s ≡ true ↔ (s ≢ sending.Nothing)
 sends sending.Nothing = (λ t. absurd (false≢true t), λ n. absurd (n refl))
 sends (sending.Primary p n) = (λ t e. true≢false (ap sendingBy e), λ m. refl)
 sends (sending.Reply p f n) = (λ t e. true≢false (ap sendingBy e), λ m. refl)

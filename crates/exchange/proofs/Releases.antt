@@ -19,8 +19,9 @@ use Rattle.place.specs.declared.IncomingStage.the-variants as arrival
 use Rattle.exchange.specs.Exchange.{ownPlace, incomingPlace}
 use Rattle.exchange.specs.Request as request
 use Rattle.exchange.specs.History as exchange
+use Rattle.exchange.specs.Releases as side
 use Rattle.exchange.specs.Releases.{Side, releases, frees, isRelease, asksRelease, LentExactly, VerdictStays, SameMessage, MessageStays, EndStays}
-use Rattle.exchange.proofs.OneCall.{own-changed, incoming-changed}
+use Rattle.exchange.proofs.OneCall.{changed}
 
 -- ---- a call that is no release
 
@@ -80,14 +81,14 @@ end-stays-at c h (arrival.Replied n z) incoming.release g i = absurd (false≢tr
 
 pub verdict-stays : VerdictStays
 verdict-stays c x room four p within g =
-    let o = ownPlace x p in own-changed c x room four p within (λ z. z ≡ o) refl (λ e i. verdict-stays-at c (o .header) (o .stage) e g i)
+    let o = ownPlace x p in changed side.own c x room four p within (λ z. z ≡ o) refl (λ e i. verdict-stays-at c (o .header) (o .stage) e g i)
 
 pub message-stays : MessageStays
 message-stays c x room four p within g =
     let i = incomingPlace x p in
-    incoming-changed c x room four p within (SameMessage i) (record { complete = g; header = refl; size = refl })
+    changed side.incoming c x room four p within (SameMessage i) (record { complete = g; header = refl; size = refl })
     (λ e z. let y = complete-stays c i .kept g e z in record { complete = y .0; header = y .1; size = y .2 })
 
 pub end-stays : EndStays
 end-stays c x room four p within g =
-    let i = incomingPlace x p in incoming-changed c x room four p within (λ j. j ≡ i) refl (λ e z. end-stays-at c (i .header) (i .stage) e g z)
+    let i = incomingPlace x p in changed side.incoming c x room four p within (λ j. j ≡ i) refl (λ e z. end-stays-at c (i .header) (i .stage) e g z)

@@ -13,9 +13,10 @@ use Rattle.header.specs.declared.header.Header.{Header}
 use Rattle.settings.specs.declared.terms.Terms.{Terms}
 use Rattle.place.proofs.Arrivals.{by-waited}
 use Rattle.place.specs.Fate.{fateOf}
-use Rattle.place.specs.Incoming.{freshIncoming, primaryOf, freeAt, openAt, repliedAt, completeAt, lengthAt, begunBy, begins, incomingBegun, openBy, openTick, incomingTick, keptBy, goesOn, incomingTakes, incomingOffered, incomingSent, incomingFailed, incomingReleased, incomingLength}
+use Rattle.place.specs.Incoming.{freshIncoming, primaryOf, freeAt, openAt, repliedAt, completeAt, lengthAt, begunBy, begins, incomingBegun, openBy, openTick, incomingTick, keptBy, goesOn, incomingTakes, incomingOffered, endedAt, incomingReleased, incomingLength}
 use Rattle.place.specs.declared.Fate.{Fate}
 use Rattle.place.specs.declared.Fate.the-variants as fate
+use Rattle.place.specs.declared.End.{End}
 use Rattle.place.specs.declared.End.the-variants as end
 use Rattle.place.specs.declared.IncomingStage.{IncomingStage}
 use Rattle.place.specs.declared.IncomingStage.the-variants as arrival
@@ -30,7 +31,7 @@ use Rattle.exchange.specs.Request.{sendingBy, isSending, notReady, refus
 use Rattle.exchange.specs.Rules.{Fours}
 use Rattle.exchange.specs.History as exchange
 use Rattle.exchange.specs.Watching.{takenAt, replyFrom}
-use Rattle.exchange.specs.Underway.{Way, none, onway, sent, failed, wayAt, way, isOnway, wayOf, ReplyRead, wayTaken, replySees, ReplyAt, ReplyWatchedOn, ReplyWatched}
+use Rattle.exchange.specs.Underway.{Way, none, onway, sent, failed, endWay, wayAt, way, isOnway, wayOf, ReplyRead, wayTaken, replySees, ReplyAt, ReplyWatchedOn, ReplyWatched}
 use Rattle.exchange.specs.declared.ReplyStage.{ReplyStage}
 use Rattle.exchange.specs.declared.IncomingReading.{IncomingReading}
 use Rattle.exchange.specs.declared.IncomingReading.the-variants as reading
@@ -50,7 +51,7 @@ at h z = record { header = h; stage = z }
 
 -- ---- what is read of it
 
-abbrev readAt : IncomingStage → Header → IncomingReading
+abbrev pub readAt : IncomingStage → Header → IncomingReading
 readAt z h =
     let i = at h z in cond (freeAt z) reading.NoPlace (reading.Place (primaryOf i) (lengthAt z) (not (openAt z)) (replyStageAt z i))
 
@@ -118,21 +119,13 @@ ticked-way c h (arrival.Replying n) = refl
 ticked-way c h (arrival.Replied n e) = refl
 
 -- a reply that is on its way
-sent-way : (h : Header) (z : IncomingStage) → isOnway (wayAt z) ≡ true → way (incomingSent (at h z)) ≡ sent
-sent-way h arrival.Free e = absurd (false≢true e)
-sent-way h (arrival.Open a) e = absurd (false≢true e)
-sent-way h (arrival.Complete n) e = absurd (false≢true e)
-sent-way h (arrival.Replying n) e = refl
-sent-way h (arrival.Replied n end.Sent) e = absurd (false≢true e)
-sent-way h (arrival.Replied n end.Failed) e = absurd (false≢true e)
-
-failed-way : (h : Header) (z : IncomingStage) → isOnway (wayAt z) ≡ true → way (incomingFailed (at h z)) ≡ failed
-failed-way h arrival.Free e = absurd (false≢true e)
-failed-way h (arrival.Open a) e = absurd (false≢true e)
-failed-way h (arrival.Complete n) e = absurd (false≢true e)
-failed-way h (arrival.Replying n) e = refl
-failed-way h (arrival.Replied n end.Sent) e = absurd (false≢true e)
-failed-way h (arrival.Replied n end.Failed) e = absurd (false≢true e)
+ended-way : (y : End) (h : Header) (z : IncomingStage) → isOnway (wayAt z) ≡ true → way (endedAt y z (at h z)) ≡ endWay y
+ended-way y h arrival.Free e = absurd (false≢true e)
+ended-way y h (arrival.Open a) e = absurd (false≢true e)
+ended-way y h (arrival.Complete n) e = absurd (false≢true e)
+ended-way y h (arrival.Replying n) e = refl
+ended-way y h (arrival.Replied n end.Sent) e = absurd (false≢true e)
+ended-way y h (arrival.Replied n end.Failed) e = absurd (false≢true e)
 
 -- a message that can be released has no reply on its way
 ready-way : (h : Header) (z : IncomingStage) → not (completeAt z) && not (repliedAt z) ≡ false → (isOnway (wayAt z) ≡ false) × (way (incomingReleased (at h z)) ≡ none)
@@ -155,15 +148,13 @@ module _ (c : Terms) (x : Exchange) (room : List ℕ) (four : Fours x) (p : ℕ)
   idle : isSending x ≡ false → isOnway s ≡ false
   idle n = w .1 ∙ nothing-replied p (x .sending) n
 
-  -- another place is put, or this one without a step of its reply
-  put-same : (q : ℕ) (i : Incoming) → way i ≡ way (incomingPlace x q) → way (getD (set (x .incoming) q i) p freshIncoming) ≡ s
-  put-same q i e =
-      set-one (λ t (j : Incoming). way j ≡ s) (x .incoming) freshIncoming q i p (omega (arith, four .incoming))
-      (λ z. e ∙ ap (λ (k : ℕ). way (incomingPlace x k)) z ∙ w .0) (w .0)
-
-  -- a step of it
+  -- a place is put with a step of its reply
   put-step : (q : ℕ) (i : Incoming) (y : Way) → (q ≡ p → way i ≡ y) → way (getD (set (x .incoming) q i) p freshIncoming) ≡ cond (eqb q p) y s
   put-step q i y e = set-one (λ t (j : Incoming). way j ≡ cond t y s) (x .incoming) freshIncoming q i p (omega (arith, four .incoming)) e (w .0)
+
+  -- or without one
+  put-same : (q : ℕ) (i : Incoming) → way i ≡ way (incomingPlace x q) → way (getD (set (x .incoming) q i) p freshIncoming) ≡ s
+  put-same q i e = put-step q i s (λ z. e ∙ ap (λ (k : ℕ). way (incomingPlace x k)) z ∙ w .0) ∙ same-either (eqb q p) s
 
   block-way : (h d : List ℕ) → way (incomingPlace (judgeOf c x h d room .answer .exchange) p) ≡ s
   unfolding thrown replyBlock messageBlock beginsAt savedNow putOwn putIncoming
@@ -185,13 +176,13 @@ module _ (c : Terms) (x : Exchange) (room : List ℕ) (four : Fours x) (p : ℕ)
   unfolding endedOwn endedReply putOwn putIncoming withSending
   acknowledged-way sending.Nothing e = w .0
   acknowledged-way (sending.Primary q n) e = w .0
-  acknowledged-way (sending.Reply q f n) e = put-step q _ sent (λ z. sent-way (incomingPlace x q .header) (incomingPlace x q .stage) (on-its-way-here q f n e z))
+  acknowledged-way (sending.Reply q f n) e = put-step q _ sent (λ z. ended-way end.Sent (incomingPlace x q .header) (incomingPlace x q .stage) (on-its-way-here q f n e z))
 
   lost-way : (q : Sending) → x .sending ≡ q → way (incomingPlace (failedBy q x .exchange) p) ≡ cond (replyFrom q p) failed s
   unfolding endedOwn endedReply putOwn putIncoming withSending
   lost-way sending.Nothing e = w .0
   lost-way (sending.Primary q n) e = w .0
-  lost-way (sending.Reply q f n) e = put-step q _ failed (λ z. failed-way (incomingPlace x q .header) (incomingPlace x q .stage) (on-its-way-here q f n e z))
+  lost-way (sending.Reply q f n) e = put-step q _ failed (λ z. ended-way end.Failed (incomingPlace x q .header) (incomingPlace x q .stage) (on-its-way-here q f n e z))
 
   -- the end of a send, z being sent then, leaves no reply on its way
   over : (y : Way) (z : Sending) → z ≡ sending.Nothing → isOnway y ≡ false → isOnway (cond (replyFrom (x .sending) p) y s) ≡ replyFrom z p

@@ -1,25 +1,35 @@
 -- Any calls, one after the other, each in any room: what each keeps, they all keep. Assumes nothing.
 use Prim.Native.Nat.{ℕ}
-use mathlib.Core.Path.{_≡_, refl, ap, _∙_, subst}
+use mathlib.Core.Path.{_≡_, refl, sym, ap, _∙_, subst}
 use mathlib.Core.List.{List, [], _∷_, _++_}
 use lib.ListN.{length}
 use Rattle.settings.specs.declared.terms.Terms.{Terms}
 use Rattle.exchange.specs.Exchange.{freshExchange}
 use Rattle.exchange.specs.Rules.{Fours}
 use Rattle.exchange.specs.History.{Call, called, Joined, Track, next, track, atStart}
+use Rattle.exchange.specs.Releases.{Side}
+use Rattle.exchange.specs.Releases as side
 use Rattle.exchange.specs.Theorems.{Reached}
 use Rattle.exchange.specs.Watching.{watch}
 use Rattle.exchange.specs.declared.Exchange.{Exchange}
+use Rattle.exchange.proofs.Sides.{table}
 use Rattle.exchange.proofs.Joining.{Good}
 use Rattle.exchange.proofs.Areas.{GoodTrack, one-call, fresh-good, always}
 use Rattle.exchange.proofs.AnyRoom.{track-alike}
 
+-- ---- one after the other
+
+-- `go` takes the steps one by one: some, to u, and then others
+pub go-on : {T E : Type 0} (step : T → E → T) (go : T → List E → T) → ((t : T) → go t [] ≡ t) → ((t : T) (e : E) (es : List E) → go t (e ∷ es) ≡ go (step t e) es)
+    → (t u : T) (es fs : List E) → go t es ≡ u → go t (es ++ fs) ≡ go u fs
+go-on step go stop on t u [] fs so = ap (λ v. go v fs) (sym (stop t) ∙ so)
+go-on step go stop on t u (e ∷ es) fs so = on t e (es ++ fs) ∙ go-on step go stop on (step t e) u es fs (sym (on t e es) ∙ so)
+
 -- ---- reached by calls
 
-pub track-more : (c : Terms) (t : Track) (ks js : List Call) → track c t (ks ++ js) ≡ track c (track c t ks) js
+pub track-more : (c : Terms) (t u : Track) (ks js : List Call) → track c t ks ≡ u → track c t (ks ++ js) ≡ track c u js
 unfolding track
-track-more c t [] js = refl
-track-more c t (k ∷ ks) js = track-more c (next c t k) ks js
+track-more c = go-on (next c) (track c) (λ t. refl) (λ t k ks. refl)
 
 -- and after some calls more
 pub reached-more : (c : Terms) (t : Track) → Reached c t → (ks : List Call) → Reached c (track c t ks)
@@ -28,7 +38,7 @@ reached-more c t w ks = record {
   room = w .room;
   whole = w .whole;
   calls = w .calls ++ ks;
-  so = track-more c (atStart (w .last) (w .room)) (w .calls) ks ∙ ap (λ (v : Track). track c v ks) (w .so);
+  so = track-more c (atStart (w .last) (w .room)) t (w .calls) ks (w .so);
 }
 
 pub reached-fresh : (c : Terms) (last : ℕ) (room : List ℕ) → length room ≡ 36864 → Reached c (atStart last room)
@@ -43,7 +53,11 @@ pub record Sound (x : Exchange) : Type 0 where
   pub good : Good x room joined
 
 pub four-places : (x : Exchange) → Sound x → Fours x
-four-places x g = record { own = g .good .own-four; incoming = g .good .incoming-four }
+four-places x g = record { own = g .good .own .four; incoming = g .good .incoming .four }
+
+pub four-of : (z : Side) (x : Exchange) → Sound x → length (table z x) ≡ 4
+four-of side.own x g = g .good .own .four
+four-of side.incoming x g = g .good .incoming .four
 
 pub sound-good : (t : Track) → GoodTrack t → Sound (t .exchange)
 sound-good t g = record { room = t .room; joined = t .seen; good = g }

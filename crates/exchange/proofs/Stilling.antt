@@ -1,9 +1,8 @@
 -- A tick at which no timer runs changes nothing. Assumes nothing.
 use Prim.Native.Nat.{ℕ}
 use mathlib.Core.Path.{_≡_, refl, sym, ap, _∙_}
-use mathlib.Core.Bool.{Bool, true, false, cond, not, _&&_, _||_, false≢true}
+use mathlib.Core.Bool.{Bool, true, false, not, _||_, false≢true}
 use mathlib.Core.List.{List, [], _∷_, map}
-use native.Mathlib.Omega.{arith}
 use lib.ListN.{length, getD}
 use Rattle.wire.proofs.Choice.{both}
 use Rattle.settings.specs.declared.terms.Terms.{Terms}
@@ -23,6 +22,7 @@ use Rattle.table.proofs.Fours.{map-four}
 use Rattle.exchange.specs.Exchange.{gotVerdict, latestAfter}
 use Rattle.exchange.specs.Tick.{wasDropped, tickOf, timedAt, ownTimed, ownsTimed, incomingsTimed, isStill, StillTick}
 use Rattle.exchange.specs.declared.Exchange.{Exchange}
+use Rattle.exchange.proofs.Flagging.{stays}
 
 -- ---- one place
 
@@ -46,13 +46,9 @@ own-place-still c o e = own-still c o (o .stage) e
 incoming-place-still : (c : Terms) (i : Incoming) → incomingIsOpen i ≡ false → incomingTick c i ≡ i
 incoming-place-still c i e = incoming-still c i (i .stage) e
 
-not-now : (t : Bool) → not t && t ≡ false
-not-now true = refl
-not-now false = refl
-
 no-verdict : (o : Own) → gotVerdict o o ≡ false
 unfolding gotVerdict
-no-verdict o = not-now (ownHasVerdict o)
+no-verdict o = stays (ownHasVerdict o)
 
 no-latest : (latest : ℕ) (o : Own) → latestAfter latest o o ≡ latest
 unfolding latestAfter

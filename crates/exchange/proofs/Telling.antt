@@ -28,7 +28,7 @@ use Rattle.table.specs.Own.{ownAt, replyFor}
 use Rattle.table.specs.Incoming.{incomingAt, messageFor}
 use Rattle.table.specs.declared.Found.the-variants.{Nowhere}
 use Rattle.table.proofs.Finding.{message-lowest, open-alike-lowest}
-use Rattle.exchange.specs.Flags.{noMarks, markAt, noFlags, incomingFlags}
+use Rattle.exchange.specs.Flags.{noMarks, noFlags, incomingFlags}
 use Rattle.exchange.specs.Exchange.{ownPlace, incomingPlace, gotVerdict, putOwn, putIncoming, withSending, savedNow}
 use Rattle.exchange.specs.Tick.{wasDropped, tickOf}
 use Rattle.exchange.specs.Send.{endedOwn, endedReply, sentBy, failedBy}
@@ -38,6 +38,7 @@ use Rattle.exchange.specs.Theorems.{flagAt, becameGiven, becameComplete,
 use Rattle.exchange.proofs.Finding.{found}
 use Rattle.exchange.proofs.Judging.{duplicate, begins, reply-here, message-here}
 use Rattle.exchange.proofs.Leaving.{place-taken}
+use Rattle.exchange.proofs.Keeping.{no-mark}
 use Rattle.exchange.proofs.Cases.{Takes, by-judge}
 use Rattle.exchange.proofs.Joining.{offered-kept}
 use Rattle.exchange.proofs.Areas.{taken-place, begun-at}
@@ -215,14 +216,6 @@ tick-flags c x =
 
 -- ---- the end of a send
 
--- a mark that is not set
-mark-none : (p : ℕ) → markAt p false ≡ noMarks
-mark-none zero = refl
-mark-none (suc zero) = refl
-mark-none (suc (suc zero)) = refl
-mark-none (suc (suc (suc zero))) = refl
-mark-none (suc (suc (suc (suc p)))) = refl
-
 -- a reply that ends completes no message and drops none
 ended-incomplete : (z : End) (h : Header) (s : IncomingStage) → becameComplete (record { header = h; stage = s }) (endedAt z s (record { header = h; stage = s })) ≡ false
 unfolding becameComplete
@@ -244,7 +237,7 @@ module _ (x : Exchange) (own-four : length (x .own) ≡ 4) (incoming-four : leng
   unfolding endedReply putIncoming withSending
   reply-flags z p =
       let i = incomingPlace x p in
-      subst (λ m. Flagged x (endedReply x p (endedAt z (i .stage) i) .exchange) noneThrown (record { verdicts = noMarks; completed = m; dropped = m })) (mark-none p)
+      subst (λ m. Flagged x (endedReply x p (endedAt z (i .stage) i) .exchange) noneThrown (record { verdicts = noMarks; completed = m; dropped = m })) (no-mark p)
       (incoming-flagged x _ noneThrown p (endedAt z (i .stage) i) false false incoming-four refl refl (sym (ended-incomplete z (i .header) (i .stage)))
       (λ d. absurd (ended-there z (i .header) (i .stage) d)) (λ e. absurd (false≢true e)) (λ p k t. absurd t))
 

@@ -26,8 +26,9 @@ use Rattle.exchange.specs.Exchange.{ownPlace, putOwn, putIncoming, withS
 use Rattle.exchange.specs.Judge.{judgeOf}
 use Rattle.exchange.specs.Request.{sendingBy, isSending, refusedBy, refused, claimedAt, replyAccepted, Request, answerOf}
 use Rattle.exchange.specs.Rules.{Fours}
-use Rattle.exchange.specs.History.{Call, block, tick, acknowledged, failed, request, called, atStart}
-use Rattle.exchange.specs.Watching.{foundAt, takenAt, sentFrom, toldBy, ownTaken, ownSees, OwnAt}
+use Rattle.exchange.specs.History.{Call, block, tick, acknowledged, failed, request, called, Track, track, atStart}
+use Rattle.exchange.specs.Releases as side
+use Rattle.exchange.specs.Watching.{foundAt, takenAt, sentFrom, toldBy, ownTaken, ownSees, OwnAt, watch}
 use Rattle.exchange.specs.Underway.{Underway, UnderwayOn, UnderwayExactly}
 use Rattle.exchange.specs.declared.Sending.{Sending}
 use Rattle.exchange.specs.declared.Sending.the-variants as sending
@@ -35,8 +36,8 @@ use Rattle.exchange.specs.declared.Exchange.{Exchange}
 use Rattle.exchange.proofs.Cases.{by-request}
 use Rattle.exchange.proofs.BeingSent.{sending-ends}
 use Rattle.exchange.proofs.OneCall.{same-either}
-use Rattle.exchange.proofs.Runs.{four-places, sound-fresh, run-any}
-use Rattle.exchange.proofs.Watching.{own-watched-on, own-at-start}
+use Rattle.exchange.proofs.Runs.{Sound, four-places, four-of, sound-fresh, run-any}
+use Rattle.exchange.proofs.Watching.{own-watched-on, watched-start}
 
 -- ---- what is seen of a request
 
@@ -158,9 +159,14 @@ module _ (c : Terms) (x : Exchange) (room : List ℕ) (four : Fours x) (p : ℕ)
 pub underway-on : UnderwayOn
 underway-on c x room four p within s w u k = underway-after c x room four p within s w u k
 
+-- any calls more, with the place
+pub underway-all : (c : Terms) (p : ℕ) → p < 4 → (t : Track) (s : own.Seen) (ks : List Call) → Sound (t .exchange) → OwnAt c p (t .exchange) s × Underway p (t .exchange) s
+    → OwnAt c p (track c t ks .exchange) (watch c (ownSees c p) t s ks) × Underway p (track c t ks .exchange) (watch c (ownSees c p) t s ks)
+underway-all c p k =
+    run-any c (ownSees c p) (λ x s. OwnAt c p x s × Underway p x s)
+    (λ x room s j g w. (own-watched-on c x room (four-of side.own x g) p k s j (w .0), underway-on c x room (four-places x g) p k s (w .0) (w .1) j))
+
 pub underway-exactly : UnderwayExactly
 underway-exactly c last room whole ks p k =
-    run-any c (ownSees c p) (λ x s. OwnAt c p x s × Underway p x s)
-    (λ x lent s j g w. (own-watched-on c x lent (g .good .own-four) p k s j (w .0), underway-on c x lent (four-places x g) p k s (w .0) (w .1) j))
-    (atStart last room) own.nothingSeen ks (sound-fresh last room whole)
-    (own-at-start c p last, (λ e. absurd (none-apart e), λ e. absurd (false≢true e))) .1
+    underway-all c p k (atStart last room) own.nothingSeen ks (sound-fresh last room whole)
+    (watched-start side.own c p last, (λ e. absurd (none-apart e), λ e. absurd (false≢true e))) .1

@@ -1,85 +1,63 @@
 -- Each place, and what its onlooker at the door has seen, are as events at a place leave them. Assumes nothing.
 use Prim.Native.Nat.{ℕ, _<_}
-use mathlib.Core.Path.{_≡_, refl, ap, _∙_}
+use mathlib.Core.Path.{_≡_, refl}
 use mathlib.Core.List.{List, [], _∷_, _++_}
+use lib.ListN.{length}
 use Rattle.settings.specs.declared.terms.Terms.{Terms}
-use Rattle.place.specs.Own.{freshOwn}
 use Rattle.place.specs.OwnHistory as own
-use Rattle.place.specs.OwnTheorems.{Reached as OwnReached}
-use Rattle.place.specs.Incoming.{freshIncoming}
 use Rattle.place.specs.IncomingHistory as incoming
-use Rattle.place.specs.IncomingTheorems.{Reached as IncomingReached}
-use Rattle.exchange.specs.Exchange.{freshExchange, ownPlace, incomingPlace}
-use Rattle.exchange.specs.History.{Call, Track, next, track, atStart}
-use Rattle.exchange.specs.Watching.{ownSees, incomingSees, OwnAt, IncomingAt, OwnWatchedOn, IncomingWatchedOn, watch, OwnWatched, IncomingWatched}
+use Rattle.exchange.specs.Exchange.{freshExchange}
+use Rattle.exchange.specs.History.{Call, called, Track, track, atStart}
+use Rattle.exchange.specs.Releases.{Side}
+use Rattle.exchange.specs.Releases as side
+use Rattle.exchange.specs.Watching.{OwnWatchedOn, IncomingWatchedOn, watch, OwnWatched, IncomingWatched}
+use Rattle.exchange.specs.declared.Exchange.{Exchange}
 use Rattle.exchange.proofs.Repeated.{any-fresh}
-use Rattle.exchange.proofs.OneCall.{own-call, incoming-call}
-use Rattle.exchange.proofs.Runs.{Sound, sound-fresh, run-any}
+use Rattle.exchange.proofs.Sides.{Place, Event, Seen, fresh, nothingSeen, step, sees, Reached, table, place, watches, by-event}
+use Rattle.exchange.proofs.OneCall.{call}
+use Rattle.exchange.proofs.Runs.{go-on, Sound, four-of, sound-fresh, run-any}
 
--- ---- one event more
+-- ---- no event, and one more
 
-own-more : {c : Terms} (t : own.Track) (es : List (own.Event c)) (e : own.Event c) → own.track t (es ++ (e ∷ [])) ≡ own.next (own.track t es) e
-unfolding own.track
-own-more t [] e = refl
-own-more t (f ∷ es) e = own-more (own.next t f) es e
+none-yet : (z : Side) (c : Terms) → Reached z c (fresh z) (nothingSeen z)
+unfolding own.track incoming.track
+none-yet side.own c = record { events = []; so = refl }
+none-yet side.incoming c = record { events = []; so = refl }
 
-own-event : (c : Terms) (t : own.Track) (e : own.Event c) → OwnReached c t → OwnReached c (own.next t e)
-own-event c t e w = record {
-  events = w .events ++ (e ∷ []);
-  so = own-more own.atStart (w .events) e ∙ ap (λ (u : own.Track). own.next u e) (w .so);
-}
-
-own-fresh : (c : Terms) → OwnReached c own.atStart
-unfolding own.track
-own-fresh c = record { events = []; so = refl }
-
-incoming-more : {c : Terms} (t : incoming.Track) (es : List (incoming.Event c)) (e : incoming.Event c) → incoming.track t (es ++ (e ∷ [])) ≡ incoming.next (incoming.track t es) e
-unfolding incoming.track
-incoming-more t [] e = refl
-incoming-more t (f ∷ es) e = incoming-more (incoming.next t f) es e
-
-incoming-event : (c : Terms) (t : incoming.Track) (e : incoming.Event c) → IncomingReached c t → IncomingReached c (incoming.next t e)
-incoming-event c t e w = record {
-  events = w .events ++ (e ∷ []);
-  so = incoming-more incoming.atStart (w .events) e ∙ ap (λ (u : incoming.Track). incoming.next u e) (w .so);
-}
-
-incoming-fresh : (c : Terms) → IncomingReached c incoming.atStart
-unfolding incoming.track
-incoming-fresh c = record { events = []; so = refl }
+then : (z : Side) (c : Terms) (o : Place z) (s : Seen z) (e : Event z c) → Reached z c o s → Reached z c (step z c o e) (sees z c o s e)
+unfolding own.track incoming.track
+then side.own c o s e w = record { events = w .events ++ (e ∷ []); so = go-on own.next own.track (λ t. refl) (λ t f es. refl) own.atStart _ (w .events) (e ∷ []) (w .so) }
+then side.incoming c i s e w = record { events = w .events ++ (e ∷ []); so = go-on incoming.next incoming.track (λ t. refl) (λ t f es. refl) incoming.atStart _ (w .events) (e ∷ []) (w .so) }
 
 -- ---- one call
 
+watched-on : (z : Side) (c : Terms) (x : Exchange) (room : List ℕ) → length (table z x) ≡ 4 → (p : ℕ) → p < 4 → (s : Seen z) (j : Call)
+    → Reached z c (place z x p) s → Reached z c (place z (called c x room j .exchange) p) (watches z c p x room s j)
+watched-on z c x room four p k s j w = by-event (Reached z c) (call c x p k z room j four s) w (λ e i. then z c (place z x p) s e w)
+
 pub own-watched-on : OwnWatchedOn
-own-watched-on c x room four p k s j w =
-    own-call c x four p k s (λ o z. OwnReached c (record { own = o; seen = z })) w room j (λ e i. own-event c (record { own = ownPlace x p; seen = s }) e w)
+own-watched-on = watched-on side.own
 
 pub incoming-watched-on : IncomingWatchedOn
-incoming-watched-on c x room four p k s j w =
-    incoming-call c x four p k s (λ i z. IncomingReached c (record { incoming = i; seen = z })) w room j
-    (λ e i. incoming-event c (record { incoming = incomingPlace x p; seen = s }) e w)
+incoming-watched-on = watched-on side.incoming
 
 -- ---- any calls
 
-module _ (c : Terms) (p : ℕ) (k : p < 4) where
-  pub own-all : (t : Track) (s : own.Seen) (ks : List Call) → Sound (t .exchange) → OwnAt c p (t .exchange) s
-      → OwnAt c p (track c t ks .exchange) (watch c (ownSees c p) t s ks)
-  own-all = run-any c (ownSees c p) (OwnAt c p) (λ x room s j g w. own-watched-on c x room (g .good .own-four) p k s j w)
-
-  pub incoming-all : (t : Track) (s : incoming.Seen) (ks : List Call) → Sound (t .exchange) → IncomingAt c p (t .exchange) s
-      → IncomingAt c p (track c t ks .exchange) (watch c (incomingSees c p) t s ks)
-  incoming-all = run-any c (incomingSees c p) (IncomingAt c p) (λ x room s j g w. incoming-watched-on c x room (g .good .incoming-four) p k s j w)
+pub watched-all : (z : Side) (c : Terms) (p : ℕ) → p < 4 → (t : Track) (s : Seen z) (ks : List Call) → Sound (t .exchange) → Reached z c (place z (t .exchange) p) s
+    → Reached z c (place z (track c t ks .exchange) p) (watch c (watches z c p) t s ks)
+watched-all z c p k = run-any c (watches z c p) (λ x s. Reached z c (place z x p) s) (λ x room s j g w. watched-on z c x room (four-of z x g) p k s j w)
 
 -- before any
-pub own-at-start : (c : Terms) (p last : ℕ) → OwnAt c p (freshExchange last) own.nothingSeen
-own-at-start c p last = rw (any-fresh freshOwn 4 p) (own-fresh c)
+pub watched-start : (z : Side) (c : Terms) (p last : ℕ) → Reached z c (place z (freshExchange last) p) (nothingSeen z)
+watched-start side.own c p last = rw any-fresh (none-yet side.own c)
+watched-start side.incoming c p last = rw any-fresh (none-yet side.incoming c)
 
-pub incoming-at-start : (c : Terms) (p last : ℕ) → IncomingAt c p (freshExchange last) incoming.nothingSeen
-incoming-at-start c p last = rw (any-fresh freshIncoming 4 p) (incoming-fresh c)
+watched : (z : Side) (c : Terms) (last : ℕ) (room : List ℕ) → length room ≡ 36864 → (ks : List Call) (p : ℕ) → p < 4
+    → Reached z c (place z (track c (atStart last room) ks .exchange) p) (watch c (watches z c p) (atStart last room) (nothingSeen z) ks)
+watched z c last room whole ks p k = watched-all z c p k (atStart last room) (nothingSeen z) ks (sound-fresh last room whole) (watched-start z c p last)
 
 pub own-watched : OwnWatched
-own-watched c last room whole ks p k = own-all c p k (atStart last room) own.nothingSeen ks (sound-fresh last room whole) (own-at-start c p last)
+own-watched = watched side.own
 
 pub incoming-watched : IncomingWatched
-incoming-watched c last room whole ks p k =
-    incoming-all c p k (atStart last room) incoming.nothingSeen ks (sound-fresh last room whole) (incoming-at-start c p last)
+incoming-watched = watched side.incoming

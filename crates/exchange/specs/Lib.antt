@@ -17,5 +17,6 @@ pub mod Releases
 pub mod Theorems
 pub mod Watching
 pub mod Underway
+pub mod Places
 pub mod Assembly
 pub mod Numbers

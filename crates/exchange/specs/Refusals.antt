@@ -22,7 +22,7 @@ use Rattle.place.specs.declared.IncomingStage.the-variants as incoming
 use Rattle.table.specs.Number.{nextNumber}
 use Rattle.exchange.specs.Exchange.{ownPlace, incomingPlace}
 use Rattle.exchange.specs.Send.{outgoingOf}
-use Rattle.exchange.specs.Request.{askedNumber, openOf, replyOf, releaseOwn, releaseIncoming, Request, primary, reply, free-own, free-incoming, answerOf}
+use Rattle.exchange.specs.Request.{requesting, askedNumber, openOf, replyOf, releaseOwn, releaseIncoming, Request, primary, reply, free-own, free-incoming, answerOf}
 use Rattle.exchange.specs.Rules.{Fours, Somewhere, LowestAt}
 use Rattle.exchange.specs.declared.Sending.the-variants as sending
 use Rattle.exchange.specs.declared.Exchange.{Exchange}
@@ -270,3 +270,12 @@ pub record AcceptedReleases : Type 0 where
   pub incoming :
       (c : Terms) (x : Exchange) (p : ℕ) (room : List ℕ) (k : ℕ) → answerOf c x (free-incoming p) room .answer .asked ≡ Taken k
       → IncomingReleased x p k (answerOf c x (free-incoming p) room .answer .exchange)
+
+-- ---- by the name of each request
+
+-- `answerOf`, of which these statements speak, is what the four functions of the transactions say, each with the arguments that were given
+pub record AnswersAre : Type 0 where
+  pub opens : (c : Terms) (x : Exchange) (q : Primary) (d room : List ℕ) → openOf c x q d room ≡ answerOf c x (primary q d) room
+  pub replies : (c : Terms) (x : Exchange) (p f : ℕ) (d room : List ℕ) → replyOf x p f d room ≡ answerOf c x (reply p f d) room
+  pub frees-own : (c : Terms) (x : Exchange) (p : ℕ) (room : List ℕ) → requesting (releaseOwn x p) room ≡ answerOf c x (free-own p) room
+  pub frees-incoming : (c : Terms) (x : Exchange) (p : ℕ) (room : List ℕ) → requesting (releaseIncoming x p) room ≡ answerOf c x (free-incoming p) room

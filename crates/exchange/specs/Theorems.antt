@@ -13,13 +13,11 @@ use Rattle.room.specs.Room.{front}
 use Rattle.room.specs.declared.Message.{Message}
 use Rattle.room.specs.declared.Message.the-variants as message
 use Rattle.place.specs.Own.{ownHasVerdict, ownKept}
-use Rattle.place.specs.OwnTheorems.{Reached as OwnReached}
+use Rattle.place.specs.OwnTheorems.{onReply, Reached as OwnReached}
 use Rattle.place.specs.OwnHistory.{Track as OwnTrack}
 use Rattle.place.specs.IncomingTheorems.{Reached as IncomingReached}
 use Rattle.place.specs.IncomingHistory.{Track as IncomingTrack}
 use Rattle.place.specs.Incoming.{incomingLength, incomingIsFree, incomingIsOpen, incomingIsComplete}
-use Rattle.place.specs.declared.Verdict.{Verdict}
-use Rattle.place.specs.declared.Verdict.the-variants.{Sent, Answered, Declined, Other, Broken, NoReply, SendFailed}
 use Rattle.place.specs.declared.OwnStage.{OwnStage}
 use Rattle.place.specs.declared.OwnStage.the-variants as stage
 use Rattle.place.specs.declared.Own.{Own}
@@ -52,21 +50,12 @@ pub record StartsWith (room : List ℕ) (m : Message) (n : ℕ) (bs : List ℕ) 
   pub bytes : front room m n ≡ bs
 
 -- "After 2, 3 or 4", and while blocks of the reply are kept
-abbrev pub byVerdict : Verdict → Bool
-byVerdict Sent = false
-byVerdict Answered = true
-byVerdict Declined = true
-byVerdict Other = true
-byVerdict Broken = false
-byVerdict NoReply = false
-byVerdict SendFailed = false
-
 abbrev pub hasReply : OwnStage → Bool
 hasReply stage.Free = false
 hasReply stage.Sending = false
 hasReply (stage.Awaiting timer) = false
 hasReply (stage.Replying a) = true
-hasReply (stage.Done v r) = byVerdict v
+hasReply (stage.Done v r) = onReply v
 
 -- the length of the message being sent, and whether there is one
 abbrev pub lengthSent : Sending → ℕ

@@ -3,13 +3,14 @@ use mathlib.Core.Path.{_≡_, refl, sym, _∙_}
 use mathlib.Core.Bool.{true, false, false≢true}
 use mathlib.Core.List.{List, []}
 use Rattle.exchange.specs.History as exchange
+use Rattle.link.specs.Answer.{accepted}
 use Rattle.link.specs.History.{Made, unlessRefused, onExchange, Track, answered, onExchangeIn}
-use Rattle.link.specs.Verdicts.{accepts, Accepted}
+use Rattle.link.specs.Verdicts.{Accepted}
 use Rattle.link.specs.Moves.{Refused}
 use Rattle.link.specs.declared.Outcome.{Outcome}
 use Rattle.link.specs.declared.Outcome.the-variants as outcome
 
-pub by-unless : (P : List exchange.Call → Type 0) (o : Outcome) (ks : List exchange.Call) → (accepts o ≡ true → P ks) → (accepts o ≡ false → P []) → P (unlessRefused o ks)
+pub by-unless : (P : List exchange.Call → Type 0) (o : Outcome) (ks : List exchange.Call) → (accepted o ≡ true → P ks) → (accepted o ≡ false → P []) → P (unlessRefused o ks)
 by-unless P outcome.Done ks went stopped = went refl
 by-unless P (outcome.Taken p) ks went stopped = went refl
 by-unless P (outcome.Refused r) ks went stopped = stopped refl

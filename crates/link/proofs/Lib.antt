@@ -1,6 +1,7 @@
--- Calls by cases; what an accepted call, and a refused one, tells. Then a folder for each file of statements (specs/): `inside`, `door`,
+-- Calls by cases; the line's step in a call; what an accepted call, and a refused one, tells. Then a folder for each file of statements (specs/): `inside`, `door`,
 -- `refusals`, `device`, `moves`, `verdicts`, `numbers`, `same_message`; and 01's numbers.
 pub mod Cases
+pub mod Steps
 pub mod Accepted
 pub mod inside
 pub mod door

@@ -1,3 +1,4 @@
 pub mod Told
+pub mod Up
 pub mod Says
 pub mod Remarks

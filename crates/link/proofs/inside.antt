@@ -1,3 +1,4 @@
+pub mod Courier
 pub mod Line
 pub mod Transactions
 pub mod Reached

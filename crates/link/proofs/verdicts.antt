@@ -4,3 +4,4 @@ pub mod Taken
 pub mod Own
 pub mod Messages
 pub mod Replies
+pub mod Readings

@@ -1,5 +1,6 @@
 -- What a call answers, and the numbers of refusals and notes (01, "Refusal numbers and notes").
 use Prim.Native.Nat.{ℕ}
+use mathlib.Core.Bool.{Bool, true, false}
 use Rattle.line.specs.Codes.{faultNote}
 use Rattle.line.specs.declared.step.Remark.{Remark}
 use Rattle.line.specs.declared.step.Remark.the-variants as remark
@@ -25,6 +26,12 @@ abbrev pub outcomeNumber : Outcome → ℕ
 outcomeNumber outcome.Done = 0
 outcomeNumber (outcome.Taken p) = 0
 outcomeNumber (outcome.Refused r) = refusalNumber r
+
+-- a call that was not refused
+abbrev pub accepted : Outcome → Bool
+accepted outcome.Done = true
+accepted (outcome.Taken p) = true
+accepted (outcome.Refused r) = false
 
 -- "20 nothing, 21 to 27 above, and with a NAK 28 no length in T2, 29 gap in body, 30 bad length, 31 bad sum"
 abbrev pub noteNumber : Note → ℕ

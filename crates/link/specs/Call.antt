@@ -54,12 +54,6 @@ requestedAs u a o = requestedBy (a .answer .asked) u (a .answer .exchange) (a .r
 abbrev pub lentCall : Link → Request → List ℕ → List ℕ → Left
 lentCall u r room o = gated u room o (requestedAs u (answerOf (u .settings .terms) (u .exchange) r room) o)
 
-abbrev pub openCall : Link → Primary → List ℕ → List ℕ → List ℕ → Left
-openCall u q d room o = lentCall u (primary q d) room o
-
-abbrev pub replyCall : Link → ℕ → ℕ → List ℕ → List ℕ → List ℕ → Left
-replyCall u p f d room o = lentCall u (reply p f d) room o
-
 -- a release is lent no memory: the line has no part in it
 abbrev pub freesBy : Asked → Link → Exchange → Answer
 freesBy (asked.Taken p) u x = answerAs (withExchange u x) 0 (outcome.Taken p) note.Nothing noFlags
@@ -72,12 +66,6 @@ frees u q = freesBy (q .asked) u (q .exchange)
 unfoldable pub freeCall : Link → Request → Answer
 freeCall u r = cond (linkInRange u) (frees u (answerOf (u .settings .terms) (u .exchange) r [] .answer)) (refusedAs u refusal.State)
 
-abbrev pub releaseOwnCall : Link → ℕ → Answer
-releaseOwnCall u p = freeCall u (free-own p)
-
-abbrev pub releaseIncomingCall : Link → ℕ → Answer
-releaseIncomingCall u p = freeCall u (free-incoming p)
-
 -- any request, by whether memory is lent to it
 abbrev pub requestBy : Bool → Link → Request → List ℕ → List ℕ → Left
 requestBy true u r room o = lentCall u r room o
@@ -85,3 +73,16 @@ requestBy false u r room o = left (freeCall u r) room o
 
 abbrev pub requestCall : Link → Request → List ℕ → List ℕ → Left
 requestCall u r room o = requestBy (lends r) u r room o
+
+-- each by the name that its function has: no more than that request (`RequestsAre`, specs/Refusals.antt)
+abbrev pub openCall : Link → Primary → List ℕ → List ℕ → List ℕ → Left
+openCall u q d room o = requestCall u (primary q d) room o
+
+abbrev pub replyCall : Link → ℕ → ℕ → List ℕ → List ℕ → List ℕ → Left
+replyCall u p f d room o = requestCall u (reply p f d) room o
+
+abbrev pub releaseOwnCall : Link → ℕ → Answer
+releaseOwnCall u p = requestCall u (free-own p) [] [] .answer
+
+abbrev pub releaseIncomingCall : Link → ℕ → Answer
+releaseIncomingCall u p = requestCall u (free-incoming p) [] [] .answer

@@ -1,6 +1,6 @@
 -- The courier between the transactions and the line: what is being sent before a call and after it is compared, and the line is asked for
 -- a block, for the next one, or has one withdrawn (01, "The line", "Messages"). It goes by the change and by what was told, not by the
--- state: where nothing changes and nothing is told, it leaves all as it is.
+-- state: where nothing changes and nothing is told, it leaves all as it is. What it is for is `CourierAgrees` (specs/Inside.antt).
 use Prim.Native.Nat.{ℕ, _+_}
 use mathlib.Core.Bool.{Bool, true, false}
 use mathlib.Core.List.{List}

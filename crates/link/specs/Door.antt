@@ -14,6 +14,7 @@ use Rattle.line.specs.History.{Ours, none, enquired, leaving, left, Seen}
 use Rattle.line.specs.Theorems.{sendLimit, Counts, receiveLimit, patience}
 use Rattle.line.specs.declared.line.Line.{Line}
 use Rattle.exchange.specs.History as exchange
+use Rattle.link.specs.Answer.{accepted}
 use Rattle.link.specs.Run.{Left, blockBytes}
 use Rattle.link.specs.Reading.{sendingOf}
 use Rattle.link.specs.History.{Call, byte, tick, drained, request, called, Room, lentRoom, Made, cameTo, lineCalls, exchangeCalls, Track, answered, next, atStart}
@@ -134,11 +135,6 @@ abbrev pub seesBy : Outcome → Watch → line.Call → List ℕ → Bool → Wa
 seesBy outcome.Done w k bs sending = sees w k bs sending
 seesBy (outcome.Taken p) w k bs sending = sees w k bs sending
 seesBy (outcome.Refused r) w k bs sending = w
-
-abbrev pub accepted : Outcome → Bool
-accepted outcome.Done = true
-accepted (outcome.Taken p) = true
-accepted (outcome.Refused r) = false
 
 abbrev pub watches : Watch → Call → Left → Watch
 watches w k l = seesBy (l .answer .outcome) w (kind k) (bytesLeft l) (sendingOf (l .answer .link))

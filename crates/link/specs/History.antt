@@ -20,7 +20,7 @@ use Rattle.exchange.specs.History as exchange
 use Rattle.exchange.specs.Watching.{ownSees, incomingSees, watch}
 use Rattle.exchange.specs.declared.Exchange.{Exchange}
 use Rattle.link.specs.State.{freshLink}
-use Rattle.link.specs.Run.{Left, Telling, hasNext, passing, hears, hearing, byteStep, tickStep, drainedStep}
+use Rattle.link.specs.Run.{Left, Telling, hasNext, passing, hears, hearing}
 use Rattle.link.specs.Call.{byteCall, tickCall, drainedCall, requestCall}
 use Rattle.link.specs.declared.Settings.{Settings}
 use Rattle.link.specs.declared.Outcome.{Outcome}
@@ -69,11 +69,16 @@ unlessRefused outcome.Done ks = ks
 unlessRefused (outcome.Taken p) ks = ks
 unlessRefused (outcome.Refused r) ks = []
 
--- the step that the line makes in a call, before the transactions are told: in a request it makes none
+-- a step of the unit's line, in the line's own words
+abbrev pub lineStep : Link → line.Call → Heard
+lineStep u k = line.called (u .settings .limits) (u .line) (u .received) k
+
+-- the step that the line makes in a call, before the transactions are told: in a request it makes none. Statements go by it; that the
+-- unit's calls do, is `StepIsLines` (specs/Device.antt).
 abbrev pub stepIn : Link → Call → Heard
-stepIn u (byte b fits) = byteStep u b
-stepIn u tick = tickStep u
-stepIn u drained = drainedStep u
+stepIn u (byte b fits) = lineStep u (line.byte b fits)
+stepIn u tick = lineStep u line.tick
+stepIn u drained = lineStep u line.drained
 stepIn u (request r) = heard (stays (u .line)) (u .received)
 
 -- what the device tells becomes a call of the transactions: of a message's blocks they are told the end of the last one
@@ -100,8 +105,8 @@ heardBy u h room = hearing (h .step .told) (h .step .remark) (hears u h) room
 
 -- what they are at the call's end
 abbrev pub exchangeIn : Link → List ℕ → Call → Exchange
-exchangeIn u room (byte b fits) = heardBy u (byteStep u b) room .midway .exchange
-exchangeIn u room tick = passing true (u .settings .terms) (heardBy u (tickStep u) room .midway) .exchange
+exchangeIn u room (byte b fits) = heardBy u (stepIn u (byte b fits)) room .midway .exchange
+exchangeIn u room tick = passing true (u .settings .terms) (heardBy u (stepIn u tick) room .midway) .exchange
 exchangeIn u room drained = u .exchange
 exchangeIn u room (request r) = answerOf (u .settings .terms) (u .exchange) r room .answer .exchange
 
@@ -133,7 +138,7 @@ couriersIn u room k = couriers (isSending (u .exchange)) (isSending (exchangeIn 
 
 -- what a call is to the line: a release nothing
 abbrev pub onLine : Link → List ℕ → Call → List line.Call
-onLine u room (byte b fits) = line.byte b fits ∷ settles (byteStep u b .step .out) (couriersIn u room (byte b fits))
+onLine u room (byte b fits) = line.byte b fits ∷ settles (stepIn u (byte b fits) .step .out) (couriersIn u room (byte b fits))
 onLine u room tick = line.tick ∷ settling (couriersIn u room tick)
 onLine u room drained = line.drained ∷ settling (couriersIn u room drained)
 onLine u room (request r) = cond (lends r) (settling (couriersIn u room (request r))) []

@@ -1,9 +1,9 @@
 -- What is proved of the unit's inside, over every list of its calls from a start (`specs/History.antt`): the settings stay, the line goes
 -- through calls of a line and the transactions through calls of the transactions, the two agree on what is being sent, and no field
 -- leaves its range. Each proof is in `proofs/`.
-use Prim.Native.Nat.{ℕ, _≤_, _<_}
+use Prim.Native.Nat.{ℕ, _+_, _≤_, _<_}
 use mathlib.Core.Path.{_≡_}
-use mathlib.Core.Bool.{true, false}
+use mathlib.Core.Bool.{Bool, true, false}
 use mathlib.Core.List.{List, [], _∷_}
 use mathlib.Core.Logic.{_≢_}
 use lib.ListN.{length}
@@ -15,24 +15,30 @@ use Rattle.block.specs.Block.{blockOf}
 use Rattle.room.specs.Room.{bytesIn}
 use Rattle.room.specs.declared.Message.the-variants as message
 use Rattle.line.specs.History as line
-use Rattle.line.specs.Line.{busy}
-use Rattle.line.specs.Theorems.{Reached as LineReached}
+use Rattle.line.specs.Line.{lineAt, underWay, busy, byteOf}
+use Rattle.line.specs.Theorems.{Reached as LineReached, Turns}
+use Rattle.line.specs.declared.line.Line.{Line}
 use Rattle.line.specs.declared.step.Out.the-variants as out
+use Rattle.line.specs.declared.step.Told.{Told}
+use Rattle.line.specs.declared.step.Told.the-variants as told
 use Rattle.exchange.specs.History as exchange
 use Rattle.exchange.specs.Theorems.{Reached as ExchangeReached}
 use Rattle.exchange.specs.Watching.{OwnAt, IncomingAt}
-use Rattle.exchange.specs.Request.{isSending}
+use Rattle.exchange.specs.Request.{sendingBy, isSending}
 use Rattle.exchange.specs.Send.{outgoingOf}
+use Rattle.exchange.specs.declared.Sending.{Sending}
 use Rattle.exchange.specs.declared.Outgoing.the-variants as outgoing
 use Rattle.link.specs.Setup.{rangedOf}
 use Rattle.link.specs.State.{linkInRange}
-use Rattle.link.specs.Run.{Left, blockBytes, byteStep}
+use Rattle.link.specs.Courier.{courierOf}
+use Rattle.link.specs.Run.{Left, blockBytes}
 use Rattle.link.specs.History.{Call, called, Room, kept, other, Made, cameTo, lineCalls, exchangeCalls, Track, lineTrack, exchangeTrack, limitsIn, termsIn, track, atStart}
 use Rattle.link.specs.declared.Setup.{Setup}
 use Rattle.link.specs.declared.Settings.{Settings}
 use Rattle.link.specs.declared.Ranged.the-variants as ranged
 use Rattle.link.specs.declared.Refusal.the-variants as refusal
 use Rattle.link.specs.declared.Outcome.the-variants as outcome
+use Rattle.link.specs.declared.Carried.{Carried}
 use Rattle.link.specs.declared.Link.{Link}
 
 -- ---- what can be reached
@@ -134,6 +140,47 @@ PlacesInside = Always Watched
 
 -- ---- the line and the transactions agree
 
+-- What is handed to the courier, whatever transactions make of a call: what was being sent before it and is now, what was told, and the
+-- line as the device's step left it.
+pub record Handed (before after : Sending) (t : Told) (l : Line) : Type 0 where
+  -- before the step the line was busy exactly if a message was being sent; what was told is what became of that
+  pub turned : Turns t (sendingBy before) (busy l)
+  -- a message whose send has failed is not sent on
+  pub failed : t ≡ told.Failed → sendingBy after ≡ false
+  -- no block of a message that is gone is under way
+  pub gone : sendingBy after ≡ false → underWay (l .phase) ≡ false
+
+-- what it makes of line l, by whether a message is being sent then
+pub record LineCarried (sending : Bool) (l m : Line) : Type 0 where
+  -- 7, "a message is being sent or held", means the same to the line
+  pub same : sending ≡ busy m
+  -- "one message sent at a time": a block that is under way is left to the line
+  pub under-way : underWay (l .phase) ≡ true → m ≡ l
+  -- "A held block (one that gave way, or was asked for while the line was receiving) is sent at once": where none is under way one is held
+  -- exactly if a message is being sent, so none of a message that is gone; and nothing else of the line is changed
+  pub held : underWay (l .phase) ≡ false → m ≡ lineAt sending (l .phase)
+
+-- and of block k, that was on its way or held
+pub record BlockCarried (before after : Sending) (t : Told) (k n : ℕ) : Type 0 where
+  -- "numbers start at 1"
+  pub begun : sendingBy before ≡ false → sendingBy after ≡ true → n ≡ 1
+  -- it is 1 also where no message is being sent, if it was so before
+  pub none : (sendingBy before ≡ false → k ≡ 1) → sendingBy after ≡ false → n ≡ 1
+  -- "ACK means sent; the message's next block goes out with ENQ in the same call"
+  pub next : after ≡ before → t ≡ told.Sent → n ≡ k + 1
+  -- by nothing else does the same message get to another block
+  pub stays : after ≡ before → t ≢ told.Sent → n ≡ k
+
+pub record LeftBy (before after : Sending) (t : Told) (l : Line) (k : ℕ) (r : Carried) : Type 0 where
+  pub line : LineCarried (sendingBy after) l (r .line)
+  pub block : BlockCarried before after t k (r .block)
+
+-- So the courier leaves the line in agreement with any transactions, also with those that give a message up of their own accord, which
+-- today's never do.
+abbrev pub CourierAgrees : Type 0
+CourierAgrees =
+    (before after : Sending) (t : Told) (l : Line) (k : ℕ) (room : List ℕ) → Handed before after t l → LeftBy before after t l k (courierOf before after t l k room)
+
 -- To the line and to the transactions 7, "a message is being sent or held", means the same; and the block that is on its way or held
 -- is one of the message.
 pub record Agree (t : Track) : Type 0 where
@@ -162,7 +209,7 @@ pub record Whole (t : Track) : Type 0 where
 
 -- "EOT puts out the whole block": where the line has it put out, there is one
 abbrev pub WholeBlock : Type 0
-WholeBlock = Always (λ t. (b : ℕ) → byteStep (t .link) b .step .out ≡ out.Block → Whole t)
+WholeBlock = Always (λ t. (b : ℕ) → byteOf (limitsIn t) (t .link .line) b (t .link .received) .step .out ≡ out.Block → Whole t)
 
 -- ---- ranges
 

@@ -27,17 +27,17 @@ use Rattle.exchange.specs.declared.Exchange.{Exchange}
 use Rattle.exchange.specs.declared.ReplyStage.{ReplyStage}
 use Rattle.exchange.specs.declared.ReplyStage.the-variants as stage
 use Rattle.exchange.specs.declared.Primary.{Primary}
-use Rattle.link.specs.Answer.{noteNumber}
+use Rattle.link.specs.Answer.{accepted, noteNumber}
 use Rattle.link.specs.History.{Call, byte, tick, drained, request, Made, stepIn, lentRoom, Track, termsIn, answered, onExchangeIn, next}
 use Rattle.link.specs.Inside.{Always}
-use Rattle.link.specs.Verdicts.{AtEach, accepts, Accepted, Tells, FreesOwn, FreesIncoming, replyStands}
+use Rattle.link.specs.Verdicts.{AtEach, Accepted, Tells, FreesOwn, FreesIncoming, replyStands}
 use Rattle.link.specs.declared.Outcome.the-variants as outcome
 
 -- ---- what comes of a call
 
 -- it was refused
 abbrev pub Refused : Track → Made → Type 0
-Refused t m = accepts (answered t m .answer .outcome) ≡ false
+Refused t m = accepted (answered t m .answer .outcome) ≡ false
 
 -- 0.1 s passed: "a refused call is no tick"
 abbrev pub Ticks : Track → Made → Type 0

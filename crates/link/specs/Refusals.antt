@@ -15,12 +15,13 @@ use Rattle.room.specs.Room.{keptIn}
 use Rattle.room.specs.declared.Message.{Message}
 use Rattle.room.specs.declared.Message.the-variants as message
 use Rattle.line.specs.Range.{lineInRange, LineFits}
+use Rattle.line.specs.Line.{freshLine, Heard}
 use Rattle.line.specs.declared.line.Line.{Line}
 use Rattle.line.specs.declared.step.Told.the-variants as told
 use Rattle.place.specs.Range.{ownInRange, incomingInRange, OwnFits, IncomingFits}
 use Rattle.place.specs.declared.Own.{Own}
 use Rattle.place.specs.declared.Incoming.{Incoming}
-use Rattle.exchange.specs.Exchange.{ownPlace, incomingPlace}
+use Rattle.exchange.specs.Exchange.{freshExchange, ownPlace, incomingPlace}
 use Rattle.exchange.specs.Flags.{noFlags}
 use Rattle.exchange.specs.Range.{sendingInRange, SendingFits}
 use Rattle.exchange.specs.Request.{Request, primary, reply, free-own, free-incoming, lends as lendsTo}
@@ -29,11 +30,13 @@ use Rattle.exchange.specs.Rules.{Fours, LowestAt, OfReply, OfMessage, ReplyHere
 use Rattle.exchange.specs.Refusals.{OwnFree, RequestRuled, FillsBy}
 use Rattle.exchange.specs.declared.Sending.{Sending}
 use Rattle.exchange.specs.declared.Exchange.{Exchange}
+use Rattle.exchange.specs.declared.Primary.{Primary}
 use Rattle.link.specs.Answer.{outcomeNumber, noteNumber}
 use Rattle.link.specs.Setup.{noSettings, settingsInRange}
 use Rattle.link.specs.State.{freshLink, refusedAs, linkInRange, startOf}
-use Rattle.link.specs.Run.{Left, left, blockBytes, byteStep}
-use Rattle.link.specs.History.{Call, byte, tick, drained, request, called, cameTo, lineCalls}
+use Rattle.link.specs.Run.{Left, left, blockBytes}
+use Rattle.link.specs.Call.{openCall, replyCall, releaseOwnCall, releaseIncomingCall}
+use Rattle.link.specs.History.{Call, byte, tick, drained, request, called, stepIn, cameTo, lineCalls}
 use Rattle.link.specs.Door.{lineBytes}
 use Rattle.link.specs.declared.Setup.{Setup}
 use Rattle.link.specs.declared.Settings.{Settings}
@@ -177,6 +180,20 @@ AnswersAs x (request r) k = AboutPlace x r k
 abbrev pub PlaceAnswered : Type 0
 PlaceAnswered = (u : Link) (room o : List ℕ) (k : Call) → Fours (u .exchange) → AnswersAs (u .exchange) k (cameTo u room o k)
 
+-- ---- the requests by name
+
+-- What the unit's four functions do (`openCall` and the others, specs/Call.antt) is the request of that name, with these arguments: so every
+-- statement on `called` is one on them.
+pub record RequestsAre : Type 0 where
+  -- a primary is that one, on the unit as it is
+  pub opens : (u : Link) (q : Primary) (d room o : List ℕ) → openCall u q d room o ≡ called u room o (request (primary q d))
+  -- a reply is one to the place that is named
+  pub replies : (u : Link) (p f : ℕ) (d room o : List ℕ) → replyCall u p f d room o ≡ called u room o (request (reply p f d))
+  -- "Releasing is asked for each place by itself": of the own place that is named; room and output have no part in it
+  pub frees-own : (u : Link) (p : ℕ) (room o : List ℕ) → left (releaseOwnCall u p) room o ≡ called u room o (request (free-own p))
+  -- and of the incoming place that is named
+  pub frees-incoming : (u : Link) (p : ℕ) (room o : List ℕ) → left (releaseIncomingCall u p) room o ≡ called u room o (request (free-incoming p))
+
 -- ---- a release
 
 -- all but the transactions is as it was
@@ -228,6 +245,11 @@ inTicks s = record {
 -- an accepted start: a fresh unit, and nothing else to tell
 pub record Started (s : Setup) (a : Answer) : Type 0 where
   pub link : a .link ≡ freshLink (inTicks s) (s .last)
+  -- its line idle, no place in use and no header saved (exchange/specs/SavedHeader.antt), no block on its way
+  pub settings : a .link .settings ≡ inTicks s
+  pub line : a .link .line ≡ freshLine
+  pub exchange : a .link .exchange ≡ freshExchange (s .last)
+  pub block : a .link .block ≡ 1
   pub done : a .outcome ≡ outcome.Done
   pub count : a .count ≡ 0
   pub note : noteNumber (a .note) ≡ 20
@@ -268,23 +290,23 @@ pub data AreaOf (x : Exchange) (b : Header) : Message → Type 0 where
   of-free :
       (p : ℕ) → (ReplyHere x b → ⊥) → (MessageHere x b → ⊥) → (AlikeHere x b → ⊥) → LowestAt (FreeAt x) p → AreaOf x b (message.Incoming p)
 
--- the header of the block that a byte ended
-abbrev pub headerHeard : Link → ℕ → Header
-headerHeard u b = headerOf (firstTen (byteStep u b .received))
+-- the header of the block that a step of the line ended
+abbrev pub headerHeard : Heard → Header
+headerHeard s = headerOf (firstTen (s .received))
 
--- the block went up, and its data was kept behind what its message had
-pub record BlockKept (u : Link) (b : ℕ) (room after : List ℕ) : Type 0 where
+-- the block went up by it, and its data was kept behind what its message had
+pub record BlockKept (u : Link) (s : Heard) (room after : List ℕ) : Type 0 where
   pub size : ℕ
-  pub up : byteStep u b .step .told ≡ told.Up size
+  pub up : s .step .told ≡ told.Up size
   pub area : Message
-  pub of : AreaOf (u .exchange) (headerHeard u b) area
-  pub kept : after ≡ keptIn room area (bytesBefore (u .exchange) (headerHeard u b)) (part 10 size (byteStep u b .received))
+  pub of : AreaOf (u .exchange) (headerHeard s) area
+  pub kept : after ≡ keptIn room area (bytesBefore (u .exchange) (headerHeard s)) (part 10 size (s .received))
 
 -- What a call that is not refused leaves of the room: every byte; or its data is put anew into one area, "the area bytes it fills", and
 -- no other byte changes (`KeepsOnly` in room's `specs/Theorems.antt`). Note 21 is that of a block that is kept.
 abbrev pub FillsRoom : Link → List ℕ → Call → Answer → List ℕ → Type 0
 FillsRoom u room (byte b fits) a after =
-    (noteNumber (a .note) ≢ 21 → after ≡ room) × (noteNumber (a .note) ≡ 21 → Fours (u .exchange) → BlockKept u b room after)
+    (noteNumber (a .note) ≢ 21 → after ≡ room) × (noteNumber (a .note) ≡ 21 → Fours (u .exchange) → BlockKept u (stepIn u (byte b fits)) room after)
 FillsRoom u room tick a after = after ≡ room
 FillsRoom u room drained a after = after ≡ room
 FillsRoom u room (request r) a after = FillsBy r room after

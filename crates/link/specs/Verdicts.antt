@@ -12,31 +12,34 @@ use Rattle.header.specs.declared.header.Header.{Header}
 use Rattle.place.specs.Message.{Continues, Whole, noHeader, firstOf}
 use Rattle.place.specs.Own.{noReply, ownStanding}
 use Rattle.place.specs.OwnHistory as own
-use Rattle.place.specs.OwnTheorems.{Asked, Earned, ReplyAsKept, verdictLimit, silenceLimit}
+use Rattle.place.specs.OwnTheorems.{Asked, Earned, onReply, ReplyAsKept, NoneToShow, AllZeros, verdictLimit, silenceLimit}
 use Rattle.place.specs.IncomingTheorems.{Breaks}
 use Rattle.place.specs.declared.Verdict.{Verdict}
 use Rattle.place.specs.declared.Verdict.the-variants.{Answered}
 use Rattle.place.specs.declared.Standing.{Standing}
 use Rattle.place.specs.declared.Reply.{Reply}
 use Rattle.place.specs.declared.Standing.the-variants.{Free, Open, Given}
+use Rattle.room.specs.Room.{bytesIn}
+use Rattle.room.specs.declared.Message.the-variants as message
 use Rattle.exchange.specs.Exchange.{ownPlace, incomingPlace}
 use Rattle.exchange.specs.Reading.{stageBy, hasEnded}
 use Rattle.exchange.specs.Rules.{OfMessage}
-use Rattle.exchange.specs.Theorems.{Reached as ExchangeReached, byVerdict}
+use Rattle.exchange.specs.Theorems.{Reached as ExchangeReached}
 use Rattle.exchange.specs.declared.OwnReading.{OwnReading}
 use Rattle.exchange.specs.declared.OwnReading.the-variants as reading
 use Rattle.exchange.specs.declared.IncomingReading.{IncomingReading}
 use Rattle.exchange.specs.declared.IncomingReading.the-variants as arrival
 use Rattle.exchange.specs.declared.ReplyStage.{ReplyStage}
-use Rattle.exchange.specs.declared.ReplyStage.the-variants.{OnItsWay}
-use Rattle.link.specs.Reading.{ownOf, incomingOf, replyData, incomingData}
+use Rattle.exchange.specs.declared.ReplyStage.the-variants.{NotOwed, Owed, OnItsWay}
+use Rattle.link.specs.Answer.{accepted}
+use Rattle.link.specs.Reading.{ownOf, incomingOf, replyData, incomingData, sendingOf}
+use Rattle.exchange.specs.Refusals.{IsSending}
 use Rattle.exchange.specs.Request.{free-own, free-incoming}
 use Rattle.exchange.specs.History as exchange
 use Rattle.exchange.specs.Watching.{replyFrom}
 use Rattle.link.specs.History.{Made, Track, exchangeTrack, termsIn, answered, onExchangeIn, next, track}
 use Rattle.link.specs.Inside.{Always, ReachedBack}
-use Rattle.link.specs.declared.Outcome.{Outcome}
-use Rattle.link.specs.declared.Outcome.the-variants as outcome
+use Rattle.link.specs.declared.Link.{Link}
 
 -- ---- what a user reads of an own place
 
@@ -80,6 +83,14 @@ AnsweredExactly = AtEach (λ t p. (standing t p ≡ Given Answered) ↔ WholeRep
 abbrev pub FreeExactly : Type 0
 FreeExactly = AtEach (λ t p. (standing t p ≡ Free) ↔ (t .own p .request ≡ own.none))
 
+-- `V` prints "`9 - 20` for a free place or one above 3": no place is read exactly where no request is,
+abbrev pub NoPlaceExactly : Type 0
+NoPlaceExactly = AtEach (λ t p. (ownOf (t .link) p ≡ reading.NoPlace) ↔ (t .own p .request ≡ own.none))
+
+-- and above 3, where no message is either.
+abbrev pub NoneAbove : Type 0
+NoneAbove = Always (λ t. (p : ℕ) → 3 < p → (ownOf (t .link) p ≡ reading.NoPlace) × (incomingOf (t .link) p ≡ arrival.NoPlace))
+
 -- While the room comes back, the transactions inside, with it, are as their own calls leave them: so what is proved of their areas
 -- (`JoinedInAreas`, exchange/specs/Theorems.antt) holds of the lent room.
 abbrev pub ExchangeBack : Type 0
@@ -103,6 +114,15 @@ abbrev pub ArrivingRead : Type 0
 ArrivingRead =
     AtEach (λ t p. Asked (t .own p) → standing t p ≡ Open → 1 ≤ length (t .own p .kept) → ReplyAsKept (t .own p) (replyIn (ownOf (t .link) p)))
 
+-- And so is a whole one, behind 2, 3 and 4, whatever became of the room.
+abbrev pub WholeRead : Type 0
+WholeRead = AtEach (λ t p. (v : Verdict) → onReply v ≡ true → standing t p ≡ Given v → ReplyAsKept (t .own p) (replyIn (ownOf (t .link) p)))
+
+-- Where there is no block of one to show (`NoneToShow`, place/specs/OwnTheorems.antt), so behind 1, 5, 6 and 7, zeros are read: with the
+-- two above this is all that is read of a reply, but its bytes.
+abbrev pub NothingRead : Type 0
+NothingRead = AtEach (λ t p. NoneToShow (t .own p) (standing t p) → AllZeros (replyIn (ownOf (t .link) p)))
+
 -- "After 2, 3 or 4 .. its area begins with the data of the kept blocks joined": so many bytes as these blocks had, and a user reads
 -- them, while the room comes back; its W-bit, stream and function are those of the first of these blocks
 pub record ReplyReads (t : Track) (p : ℕ) : Type 0 where
@@ -111,18 +131,13 @@ pub record ReplyReads (t : Track) (p : ℕ) : Type 0 where
   pub size : length (t .joined .replies p) ≡ t .own p .bytes
 
 abbrev pub ReplyRead : Type 0
-ReplyRead = (t : Track) → ReachedBack t → (p : ℕ) → p < 4 → (v : Verdict) → byVerdict v ≡ true → standing t p ≡ Given v → ReplyReads t p
+ReplyRead = (t : Track) → ReachedBack t → (p : ℕ) → p < 4 → (v : Verdict) → onReply v ≡ true → standing t p ≡ Given v → ReplyReads t p
 
 -- ---- at most one, and kept until released
 
 -- a call that was not refused
-abbrev pub accepts : Outcome → Bool
-accepts outcome.Done = true
-accepts (outcome.Taken p) = true
-accepts (outcome.Refused r) = false
-
 abbrev pub Accepted : Track → Made → Type 0
-Accepted t m = accepts (answered t m .answer .outcome) ≡ true
+Accepted t m = accepted (answered t m .answer .outcome) ≡ true
 
 -- one of these
 pub data Among {A : Type 0} (k : A) : List A → Type 0 where
@@ -194,6 +209,11 @@ isThere t p = thereBy (incomingOf (t .link) p)
 abbrev pub isComplete : Track → ℕ → Bool
 isComplete t p = completeBy (incomingOf (t .link) p)
 
+-- none began since the last release, or it was broken before it was whole ("A broken incoming message frees its place.")
+abbrev pub NoMessage : Track → ℕ → Type 0
+NoMessage t p =
+    (t .incoming p .begun ≡ false) ⊎ ((t .incoming p .begun ≡ true) × (Whole (t .incoming p .kept) → ⊥) × Breaks (termsIn t) (t .incoming p))
+
 -- What a place shows, exactly when.
 pub record MessageExactly (t : Track) (p : ℕ) : Type 0 where
   -- complete: the blocks kept since it began are a whole message
@@ -202,10 +222,9 @@ pub record MessageExactly (t : Track) (p : ℕ) : Type 0 where
   pub open-yet :
       ((isThere t p ≡ true) × (isComplete t p ≡ false))
       ↔ ((t .incoming p .begun ≡ true) × (Whole (t .incoming p .kept) → ⊥) × (Breaks (termsIn t) (t .incoming p) → ⊥))
-  -- free: none began since the last release, or it was broken before it was whole ("A broken incoming message frees its place.")
-  pub none :
-      (isThere t p ≡ false)
-      ↔ ((t .incoming p .begun ≡ false) ⊎ ((t .incoming p .begun ≡ true) × (Whole (t .incoming p .kept) → ⊥) × Breaks (termsIn t) (t .incoming p)))
+  -- free
+  pub none : (isThere t p ≡ false) ↔ NoMessage t p
+  pub no-place : (incomingOf (t .link) p ≡ arrival.NoPlace) ↔ NoMessage t p
 
 abbrev pub CompleteExactly : Type 0
 CompleteExactly = AtEach MessageExactly
@@ -259,6 +278,20 @@ pub record MessageReads (t : Track) (p : ℕ) : Type 0 where
 abbrev pub MessageRead : Type 0
 MessageRead = (t : Track) → ReachedBack t → (p : ℕ) → p < 4 → isThere t p ≡ true → MessageReads t p
 
+-- ---- what a user reads of any unit
+
+-- As many bytes are handed out as are shown, of the place's own area: none where there is no place, or no block is kept.
+pub record DataShown (u : Link) (room : List ℕ) (p : ℕ) : Type 0 where
+  pub reply : replyData u room p ≡ bytesIn room (message.Reply p) 0 (replyIn (ownOf u p) .length)
+  pub incoming : incomingData u room p ≡ bytesIn room (message.Incoming p) 0 (lengthBy (incomingOf u p))
+
+abbrev pub DataRead : Type 0
+DataRead = (u : Link) (room : List ℕ) (p : ℕ) → DataShown u room p
+
+-- "a message is being sent or held": by which 7 refuses, and a user asks before he sends
+abbrev pub SendingRead : Type 0
+SendingRead = (u : Link) → (sendingOf u ≡ true) ↔ IsSending (u .exchange)
+
 -- ---- our reply to a message: "A reply of ours ends sent or failed in its incoming place."
 
 abbrev pub replyStands : Track → ℕ → ReplyStage
@@ -267,6 +300,22 @@ replyStands t p = stageBy (incomingOf (t .link) p)
 -- It is on its way exactly while it is the message "being sent or held".
 abbrev pub OnItsWayExactly : Type 0
 OnItsWayExactly = AtEach (λ t p. (replyStands t p ≡ OnItsWay) ↔ (replyFrom (t .link .exchange .sending) p ≡ true))
+
+-- none was accepted: it is not on its way, and it has no end
+pub record Unanswered (t : Track) (p : ℕ) : Type 0 where
+  pub not-sent : replyFrom (t .link .exchange .sending) p ≡ false
+  pub no-end : hasEnded (replyStands t p) ≡ false
+
+-- What is left where no refusal stands in its way: 9 a place free or "not complete", "10 reply to a primary with W = 0", "11 a reply to
+-- this primary was accepted before".
+pub record Owes (t : Track) (p : ℕ) : Type 0 where
+  -- owed: the message is complete, its first block asked for a reply, and none was accepted
+  pub owed : (replyStands t p ≡ Owed) ↔ ((isComplete t p ≡ true) × (firstOf (t .incoming p .kept) .w ≡ true) × Unanswered t p)
+  -- not owed: there is no message, or it is still open; or it asked for none
+  pub not-owed : (replyStands t p ≡ NotOwed) ↔ ((isComplete t p ≡ false) ⊎ ((firstOf (t .incoming p .kept) .w ≡ false) × Unanswered t p))
+
+abbrev pub OwedExactly : Type 0
+OwedExactly = AtEach Owes
 
 -- "at most one verdict and keeps it until released": the whole place is as it was
 pub record EndStays (before after : Track) (p : ℕ) : Type 0 where

@@ -142,7 +142,7 @@ fn take_settings(host: bool, fields: &[u8]) {
 fn run_calls(terms: Terms, last: u16, calls: &[u8]) {
     let mut room = [0xEEu8; 36864];
     let mut bytes = [0u8; 5000];
-    let mut exchange = clerk::fresh(last);
+    let mut exchange = desk::fresh(last);
     let mut at: usize = 0;
     while at < calls.len() {
         let start = at + 1;
@@ -444,7 +444,7 @@ fn judge(terms: Terms, exchange: Exchange, block: &[u8], room: &mut [u8]) -> Exc
     }
     let mut ten = [0u8; 10];
     bytes::copy(&block[0..10], &mut ten);
-    let judged = clerk::judge(exchange, terms, ten, &block[10..], room);
+    let judged = judging::judge(exchange, terms, ten, &block[10..], room);
     let note = judged.note;
     let flags = judged.flags;
     show_judged(note, flags);
@@ -453,7 +453,7 @@ fn judge(terms: Terms, exchange: Exchange, block: &[u8], room: &mut [u8]) -> Exc
 
 // Shows what a block came to.
 fn show_judged(note: Note, flags: Flags) {
-    show::decimal(clerk::note_number(note) as usize);
+    show::decimal(desk::note_number(note) as usize);
     if any_flag(flags) {
         show::text(b"/");
         show_flags(flags);
@@ -560,13 +560,13 @@ fn show_flags(flags: Flags) {
 // Shows what is looked at.
 fn show_look(exchange: Exchange, look: Look, room: &[u8; 36864]) {
     match look {
-        Look::Own(place) => show_own(clerk::own_reading(exchange, place)),
-        Look::Incoming(place) => show_incoming(clerk::incoming_reading(exchange, place)),
+        Look::Own(place) => show_own(desk::own_reading(exchange, place)),
+        Look::Incoming(place) => show_incoming(desk::incoming_reading(exchange, place)),
         Look::Bytes {
             message,
             offset,
             length,
-        } => show::hex(room::bytes_of(room, message, offset, length)),
+        } => show::hex(store::bytes_of(room, message, offset, length)),
         Look::Areas => show_areas(room),
     }
 }

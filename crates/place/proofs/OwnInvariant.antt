@@ -1,8 +1,8 @@
 -- What holds of an own place and its onlooker after any events at a fresh place, and what one event more leaves. Assumes nothing.
 use Prim.Native.Nat.{ℕ, _+_, _*_, _≤_}
 use mathlib.Core.Path.{_≡_, refl, sym, subst, _∙_}
-use mathlib.Core.Bool.{Bool, true, false, cond, false≢true}
-use mathlib.Core.List.{List, []}
+use mathlib.Core.Bool.{Bool, true, false, cond, false≢true, true≢false}
+use mathlib.Core.List.{List, [], _∷_, _++_}
 use mathlib.Core.Logic.{_↔_, inl, inr, ⊎-elim}
 use native.Mathlib.Omega.{arith}
 use native.Mathlib.Nat.{mul-le-mul-right}
@@ -17,11 +17,12 @@ use Rattle.header.specs.declared.header.Header.{Header}
 use Rattle.settings.proofs.Timers.{by-timer}
 use Rattle.settings.specs.declared.terms.Terms.{Terms}
 use Rattle.place.specs.Fate.{beginsReply, fateOf}
-use Rattle.place.specs.Message.{Routed, Continues, firstOf}
+use Rattle.place.specs.Message.{Routed, Continues, Whole, firstOf}
 use Rattle.place.specs.Own.{primaryOf, noReply, ended, ownKept, acknowledged, awaitedBy, awaitTick, replyingBy, replyTick, awaits, continuesReply, ownTakes, verdictOf, follows, repliedBy, replied, ownOffered}
 use Rattle.place.specs.OwnHistory.{Event, claim, sent, failed, tick, release, block, passed, answerBy, answerTo, Request, none, underway, lost, Seen, asked, acked, gaveUp, answered, Track, next}
 use Rattle.place.specs.OwnHistory as onlooker
-use Rattle.place.specs.OwnTheorems.{Asked, Complete, Earned, ReplyAsKept, BeginsReply}
+use Rattle.place.specs.OwnTheorems.{Asked, Complete, Earned, onReply, ReplyAsKept, AllZeros, BeginsReply}
+use Rattle.place.proofs.Messages.{none-not-whole}
 use Rattle.place.proofs.Arrivals as core
 use Rattle.place.proofs.Arrivals.{Arrived, Arrives}
 use Rattle.place.proofs.Judging.{reply-exactly}
@@ -64,22 +65,13 @@ pub record Replies (c : Terms) (h : List ℕ) (s : Seen) (a : Arriving) : Type 0
   pub arrives : Arrives c a (arrivedOf s)
   pub late : s .since + c .t4 .0 ≤ c .t3 .0 + s .bytes * c .t4 .0 + a .timer
 
--- the verdicts on a whole reply
-abbrev pub onReply : Verdict → Bool
-onReply Sent = false
-onReply Answered = true
-onReply Declined = true
-onReply Other = true
-onReply Broken = false
-onReply NoReply = false
-onReply SendFailed = false
-
--- the verdict is earned
+-- the verdict is earned; behind one on a whole reply that reply is shown, behind any other nothing
 pub record Ended (c : Terms) (h : List ℕ) (s : Seen) (v : Verdict) (r : Reply) : Type 0 where
   pub header : s .header ≡ headerOf h
   pub earned : Earned c s v
   pub room : r .length ≤ messageLimit
   pub shown : onReply v ≡ true → ReplyAsKept s r
+  pub unshown : onReply v ≡ false → AllZeros r
 
 -- at each stage, of the place with header bytes h and of what the onlooker has seen
 abbrev pub At : Terms → OwnStage → List ℕ → Seen → Type 0
@@ -106,6 +98,10 @@ After c h p s e = Good c (next (meet (placeAt h p) s) e)
 never : {A : Type 0} → false ≡ true → A
 never e = absurd (false≢true e)
 
+-- nothing is shown of a reply
+pub zeros : AllZeros noReply
+zeros = record { w = refl; stream = refl; function = refl; length = refl }
+
 -- what is acknowledged is not at another point
 abbrev pub IsAcked : Request → Type 0
 IsAcked none = ⊥
@@ -125,6 +121,29 @@ HasVerdict (standing.Given v) = Unit {0}
 -- a list with a block in it is not empty
 pub no-block : (bs : List Header) → bs ≡ [] → 1 ≤ length bs → ⊥
 no-block bs e some = omega (arith, rw e at some)
+
+-- ---- what a verdict that is earned says
+
+-- a reply that was asked for is whole exactly if t
+abbrev pub Tells : Seen → Bool → Type 0
+Tells s t = Asked s → t ≡ true ↔ Whole (s .kept)
+
+-- where it is whole, and where it is not
+yes-whole : (s : Seen) → Whole (s .kept) → true ≡ true ↔ Whole (s .kept)
+yes-whole s w = (λ e. w, λ x. refl)
+
+pub not-whole : (s : Seen) → (Whole (s .kept) → ⊥) → false ≡ true ↔ Whole (s .kept)
+not-whole s n = (λ e. absurd (false≢true e), λ w. absurd (n w))
+
+-- each verdict that is earned says whether the reply is whole
+pub tells-earned : (c : Terms) (s : Seen) (v : Verdict) → Earned c s v → Tells s (onReply v)
+tells-earned c s Sent e a = absurd (false≢true (sym (e .1) ∙ a .wanted))
+tells-earned c s Answered e a = yes-whole s (e .0 .whole)
+tells-earned c s Declined e a = yes-whole s (e .0 .whole)
+tells-earned c s Other e a = yes-whole s (e .0 .whole)
+tells-earned c s Broken e a = not-whole s (e .1)
+tells-earned c s NoReply e a = not-whole s (rw (e .1) none-not-whole)
+tells-earned c s SendFailed e a = absurd (is-acked _ _ e (a .acked))
 
 -- ---- a block of the reply
 
@@ -160,12 +179,15 @@ met :
 unfolding replied ended
 met c o s b size j e =
     let a : Asked (answered onlooker.kept s b size) = record { acked = j .asked .acked; wanted = j .asked .wanted } in
+    let decides : Whole (s .kept ++ (b ∷ [])) → Earned c (answered onlooker.kept s b size) (verdictOf o b) =
+    λ whole. verdict-earned c o (answered onlooker.kept s b size) b (j .header) (j .joins .same) (record { asked = a; whole = whole }) in
     let broken : Ended c (o .header) (answered onlooker.spoilt s b size) Broken noReply =
     record {
       header = j .header;
       earned = (record { acked = j .asked .acked; wanted = j .asked .wanted }, j .joins .not-yet, inl refl);
       room = omega arith;
       shown = never;
+      unshown = λ z. zeros;
     } in
     rw e
     (core.by-join c (arrivedOf s) b size (j .joins) (λ f. Good c (meet (repliedBy o b f) (answered (answerBy f) s b size)))
@@ -174,9 +196,10 @@ met c o s b size j e =
     (λ whole fits.
     record {
       header = j .header;
-      earned = verdict-earned c o (answered onlooker.kept s b size) b (j .header) (j .joins .same) (record { asked = a; whole = whole });
+      earned = decides whole;
       room = fits;
       shown = λ z. record { w = j .joins .same .w; stream = j .joins .same .stream; function = j .joins .same .function; length = refl };
+      unshown = λ z. absurd (true≢false (sym (tells-earned c (answered onlooker.kept s b size) (verdictOf o b) (decides whole) a .1 whole) ∙ z));
     })
     (λ arrives some.
     record {
@@ -359,8 +382,8 @@ sending-step c h s sent g =
       since = refl;
       within = omega arith;
     })
-    (λ w. record { header = g .header; earned = (refl, rw (g .header) w); room = omega arith; shown = never }))
-sending-step c h s failed g = rw (g .request) (record { header = g .header; earned = refl; room = omega arith; shown = never })
+    (λ w. record { header = g .header; earned = (refl, rw (g .header) w); room = omega arith; shown = never; unshown = λ z. zeros }))
+sending-step c h s failed g = rw (g .request) (record { header = g .header; earned = refl; room = omega arith; shown = never; unshown = λ z. zeros })
 sending-step c h s tick g = record { request = g .request; header = g .header }
 sending-step c h s release g = g
 sending-step c h s (block b size q) g = g
@@ -373,7 +396,7 @@ awaiting-step c h timer s failed g = rw (gave-up-over (s .request) s (over-asked
 awaiting-step c h timer s tick g =
     let a = asked-later s (g .asked) in
     by-timer _ timer (λ t. Good c (meet (awaitedBy (placeAt h (Awaiting timer)) t) (later s)))
-    (λ out. record { header = g .header; earned = (a, g .kept, g .unspoilt, omega (arith, g .since)); room = omega arith; shown = never })
+    (λ out. record { header = g .header; earned = (a, g .kept, g .unspoilt, omega (arith, g .since)); room = omega arith; shown = never; unshown = λ z. zeros })
     (λ on. record {
       asked = a;
       header = g .header;
@@ -394,7 +417,7 @@ replying-step c h a s failed g = rw (gave-up-over (s .request) s (over-asked s (
 replying-step c h a s tick g =
     let w = asked-later s (g .asked) in
     core.by-tick c a (arrivedOf s) (g .arrives) (λ t. Good c (meet (replyingBy (placeAt h (Replying a)) t) (later s)))
-    (λ out. record { header = g .header; earned = (w, core.not-whole (g .arrives), inr (g .arrives .begun .some, out)); room = omega arith; shown = never })
+    (λ out. record { header = g .header; earned = (w, core.not-whole (g .arrives), inr (g .arrives .begun .some, out)); room = omega arith; shown = never; unshown = λ z. zeros })
     (λ on. record { asked = w; header = g .header; system = g .system; arrives = on; late = omega (arith, g .late) })
 replying-step c h a s release g = g
 replying-step c h a s (block b size q) g =
@@ -405,7 +428,7 @@ unfolding ownOffered answerTo
 done-step c h v r s (claim x) g = rw (asked-over (s .request) s (headerOf x) (over c s v (g .earned))) g
 done-step c h v r s sent g = rw (acked-over (s .request) s (over c s v (g .earned))) g
 done-step c h v r s failed g = rw (gave-up-over (s .request) s (over c s v (g .earned))) g
-done-step c h v r s tick g = record { header = g .header; earned = earned-later c s v (g .earned); room = g .room; shown = λ z. let k = g .shown z in record { w = k .w; stream = k .stream; function = k .function; length = k .length } }
+done-step c h v r s tick g = record { header = g .header; earned = earned-later c s v (g .earned); room = g .room; shown = λ z. let k = g .shown z in record { w = k .w; stream = k .stream; function = k .function; length = k .length }; unshown = g .unshown }
 done-step c h v r s release g = refl
 done-step c h v r s (block b size q) g = g
 

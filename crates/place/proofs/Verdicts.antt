@@ -15,16 +15,17 @@ use Rattle.settings.specs.declared.terms.Terms.{Terms}
 use Rattle.place.specs.Message.{firstOf, Whole}
 use Rattle.place.specs.Own.{standingAt, freeBy, givenBy, keptAt, ownOffered}
 use Rattle.place.specs.OwnHistory.{Event, claim, sent, failed, tick, release, block, Request, none, underway, acknowledged, lost, Seen, step, run}
-use Rattle.place.specs.OwnTheorems.{Answers, Declines, Asked, Complete, Breaks, Earned, VerdictExactly, FreeExactly, ReplyAsKept, ReplyShown, ArrivingShown, RequestShown, OneVerdict, spares, Spared, no-more, one-more}
+use Rattle.place.specs.OwnTheorems.{Answers, Declines, Asked, Complete, Breaks, Earned, VerdictExactly, FreeExactly, onReply, ReplyAsKept, ReplyShown, ArrivingShown, NoneToShow, no-request, not-acked, none-kept, no-whole, AllZeros, NothingShown, RequestShown, OneVerdict, spares, Spared, no-more, one-more}
 use Rattle.place.proofs.Messages.{none-not-whole}
 use Rattle.place.proofs.Arrivals as core
-use Rattle.place.proofs.OwnInvariant.{At, onReply, placeAt, is-acked, no-block, HasVerdict}
+use Rattle.place.proofs.OwnInvariant.{Replies, At, placeAt, zeros, is-acked, no-block, HasVerdict, Tells, not-whole, tells-earned}
 use Rattle.place.proofs.OwnAlways.{always}
 use Rattle.place.specs.declared.Verdict.{Verdict}
 use Rattle.place.specs.declared.Verdict.the-variants.{Sent, Answered, Declined, Other, Broken, NoReply, SendFailed}
 use Rattle.place.specs.declared.Standing.{Standing}
 use Rattle.place.specs.declared.Standing.the-variants as standing
 use Rattle.place.specs.declared.Reply.{Reply}
+use Rattle.place.specs.declared.Arriving.{Arriving}
 use Rattle.place.specs.declared.Kind.{Kind}
 use Rattle.place.specs.declared.OwnStage.{OwnStage}
 use Rattle.place.specs.declared.OwnStage.the-variants.{Free, Sending, Awaiting, Replying, Done}
@@ -56,32 +57,11 @@ wholeAt (Awaiting timer) = false
 wholeAt (Replying a) = false
 wholeAt (Done v r) = onReply v
 
--- a reply that was asked for is whole exactly if t
-abbrev Tells : Seen → Bool → Type 0
-Tells s t = Asked s → t ≡ true ↔ Whole (s .kept)
-
 -- a test that is not true is false
 no-test : (t : Bool) → (t ≡ true → ⊥) → t ≡ false
 no-test t n = either t (λ x. x ≡ false) (λ e. absurd (n e)) (λ e. refl)
 
--- where it is whole, and where it is not
-yes-whole : (s : Seen) → Whole (s .kept) → true ≡ true ↔ Whole (s .kept)
-yes-whole s w = (λ e. w, λ x. refl)
-
-not-whole : (s : Seen) → (Whole (s .kept) → ⊥) → false ≡ true ↔ Whole (s .kept)
-not-whole s n = (λ e. absurd (false≢true e), λ w. absurd (n w))
-
--- each verdict that is earned says whether the reply is whole
-tells-earned : (c : Terms) (s : Seen) (v : Verdict) → Earned c s v → Tells s (onReply v)
-tells-earned c s Sent e a = absurd (false≢true (sym (e .1) ∙ a .wanted))
-tells-earned c s Answered e a = yes-whole s (e .0 .whole)
-tells-earned c s Declined e a = yes-whole s (e .0 .whole)
-tells-earned c s Other e a = yes-whole s (e .0 .whole)
-tells-earned c s Broken e a = not-whole s (e .1)
-tells-earned c s NoReply e a = not-whole s (rw (e .1) none-not-whole)
-tells-earned c s SendFailed e a = absurd (is-acked _ _ e (a .acked))
-
--- and so does each stage
+-- each stage says whether the reply is whole
 tells : (c : Terms) (p : OwnStage) (h : List ℕ) (s : Seen) → At c p h s → Tells s (wholeAt p)
 tells c Free h s g a = absurd (is-acked _ _ g (a .acked))
 tells c Sending h s g a = absurd (is-acked _ _ (g .request) (a .acked))
@@ -219,6 +199,47 @@ shows-arriving c (Done v r) h s g a o some = absurd (true≢false (ap givenBy o)
 
 pub arriving-shown : ArrivingShown
 arriving-shown c t w = shows-arriving c (t .own .stage) (t .own .header) (t .seen) (always c t w)
+
+-- where there is no block to show, no reply is arriving
+none-arriving : (c : Terms) (h : List ℕ) (a : Arriving) (s : Seen) → Replies c h s a → NoneToShow s standing.Open → ⊥
+none-arriving c h a s g (no-request e) = is-acked _ _ e (g .asked .acked)
+none-arriving c h a s g (not-acked e) = is-acked _ _ e (g .asked .acked)
+none-arriving c h a s g (none-kept q e) = no-block (s .kept) e (g .arrives .begun .some)
+none-arriving c h a s g (no-whole v f e) = false≢true (ap givenBy e)
+
+-- and none is whole
+abbrev onWhole : Standing → Bool
+onWhole standing.Free = false
+onWhole standing.Open = false
+onWhole (standing.Given v) = onReply v
+
+none-whole : (s : Seen) (z : Standing) → Complete s → onWhole z ≡ true → NoneToShow s z → ⊥
+none-whole s z k w (no-request e) = is-acked _ _ e (k .asked .acked)
+none-whole s z k w (not-acked e) = is-acked _ _ e (k .asked .acked)
+none-whole s z k w (none-kept q e) = none-not-whole (subst Whole e (k .whole))
+none-whole s z k w (no-whole v f e) = true≢false (sym w ∙ ap onWhole e ∙ f)
+
+-- 2, 3 and 4 are earned by a whole reply
+pub earned-whole : (c : Terms) (s : Seen) (v : Verdict) → Earned c s v → onReply v ≡ true → Complete s
+earned-whole c s Sent e w = absurd (false≢true w)
+earned-whole c s Answered e w = e .0
+earned-whole c s Declined e w = e .0
+earned-whole c s Other e w = e .0
+earned-whole c s Broken e w = absurd (false≢true w)
+earned-whole c s NoReply e w = absurd (false≢true w)
+earned-whole c s SendFailed e w = absurd (false≢true w)
+
+-- so nothing is shown of one
+shows-nothing : (c : Terms) (p : OwnStage) (h : List ℕ) (s : Seen) → At c p h s → NoneToShow s (standingAt p) → AllZeros (keptAt p)
+shows-nothing c Free h s g n = zeros
+shows-nothing c Sending h s g n = zeros
+shows-nothing c (Awaiting timer) h s g n = zeros
+shows-nothing c (Replying a) h s g n = absurd (none-arriving c h a s g n)
+shows-nothing c (Done v r) h s g n =
+    either (onReply v) (λ z. AllZeros r) (λ w. absurd (none-whole s (standing.Given v) (earned-whole c s v (g .earned) w) w n)) (g .unshown)
+
+pub nothing-shown : NothingShown
+nothing-shown c t w = shows-nothing c (t .own .stage) (t .own .header) (t .seen) (always c t w)
 
 -- and any one in use its request
 shows-request : (c : Terms) (p : OwnStage) (h : List ℕ) (s : Seen) → At c p h s → (standingAt p ≡ standing.Free → ⊥) → headerOf h ≡ s .header

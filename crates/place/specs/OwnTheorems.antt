@@ -11,10 +11,11 @@ use Rattle.settings.specs.declared.terms.Terms.{Terms}
 use Rattle.place.specs.Message.{Routed, StartsMessage, Continues, LacksData, Whole, firstOf}
 use Rattle.place.specs.Own.{primaryOf, ownStanding, ownKept}
 use Rattle.place.specs.Range.{ownInRange}
-use Rattle.place.specs.OwnHistory.{Event, claim, sent, failed, tick, release, block, none, acknowledged, lost, Answer, passed, kept, spoilt, answerTo, Seen, Track, track, atStart, run}
+use Rattle.place.specs.OwnHistory.{Event, claim, sent, failed, tick, release, block, none, underway, acknowledged, lost, Answer, passed, kept, spoilt, answerTo, Seen, Track, track, atStart, run}
 use Rattle.place.specs.declared.Verdict.{Verdict}
 use Rattle.place.specs.declared.Reply.{Reply}
 use Rattle.place.specs.declared.Verdict.the-variants.{Sent, Answered, Declined, Other, Broken, NoReply, SendFailed}
+use Rattle.place.specs.declared.Standing.{Standing}
 use Rattle.place.specs.declared.Standing.the-variants.{Free, Open, Given}
 
 -- what any events at a fresh place leave
@@ -73,6 +74,16 @@ VerdictExactly = (c : Terms) (t : Track) → Reached c t → (v : Verdict) → (
 abbrev pub FreeExactly : Type 0
 FreeExactly = (c : Terms) (t : Track) → Reached c t → (ownStanding (t .own) ≡ Free) ↔ (t .seen .request ≡ none)
 
+-- 2, 3 and 4: the verdicts on a whole reply
+abbrev pub onReply : Verdict → Bool
+onReply Sent = false
+onReply Answered = true
+onReply Declined = true
+onReply Other = true
+onReply Broken = false
+onReply NoReply = false
+onReply SendFailed = false
+
 -- the W-bit, stream and function of the first block kept, and the length of the data of all of them
 pub record ReplyAsKept (s : Seen) (r : Reply) : Type 0 where
   pub w : r .w ≡ firstOf (s .kept) .w
@@ -89,6 +100,24 @@ abbrev pub ArrivingShown : Type 0
 ArrivingShown =
     (c : Terms) (t : Track) → Reached c t → Asked (t .seen) → ownStanding (t .own) ≡ Open → 1 ≤ length (t .seen .kept)
     → ReplyAsKept (t .seen) (ownKept (t .own))
+
+-- There is no block of a reply to show: no request is there, or it is still being sent or held; it was acknowledged, and none was kept
+-- since; or the verdict is "1 sent", "5 broken", "6 no reply in T3" or "7 send failed".
+pub data NoneToShow (s : Seen) (z : Standing) : Type 0 where
+  no-request : s .request ≡ none → NoneToShow s z
+  not-acked : s .request ≡ underway → NoneToShow s z
+  none-kept : s .request ≡ acknowledged → s .kept ≡ [] → NoneToShow s z
+  no-whole : (v : Verdict) → onReply v ≡ false → z ≡ Given v → NoneToShow s z
+
+pub record AllZeros (r : Reply) : Type 0 where
+  pub w : r .w ≡ false
+  pub stream : r .stream ≡ 0
+  pub function : r .function ≡ 0
+  pub length : r .length ≡ 0
+
+-- Then nothing is shown of one. With the two above this is all that a place can show of a reply.
+abbrev pub NothingShown : Type 0
+NothingShown = (c : Terms) (t : Track) → Reached c t → NoneToShow (t .seen) (ownStanding (t .own)) → AllZeros (ownKept (t .own))
 
 -- The header shown of a place in use is that of the request which was accepted for it.
 abbrev pub RequestShown : Type 0

@@ -49,6 +49,13 @@ bytes-read room m o n l = record {
         ap (λ (e : ℕ). part (startOf m + o) e room) at ∙ sym (part-of-drop (startOf m) o (o + n) room)
         ∙ sym (part-of-take k o (o + n) (drop (startOf m) room) (omega arith) within fits) ∙ ap (part o (o + n)) (sym (front-is room m k))
 
+-- no bytes are none, wherever they are asked for
+pub none-of : (room : List ℕ) (m : Message) (o : ℕ) → bytesIn room m o 0 ≡ []
+unfolding bytesAt part
+none-of room m o =
+    let z : startOf m + o + 0 - (startOf m + o) ≡ 0 = omega arith in
+    by-reading room m o 0 (λ r. r ≡ []) (λ w. ap (λ (k : ℕ). take k (drop (startOf m + o) room)) z) (λ w. refl)
+
 pub front-read : FrontRead
 unfolding part
 front-read room m n l =

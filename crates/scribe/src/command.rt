@@ -5,16 +5,16 @@ ghost use lib.ListN.{length};
 ghost use Rattle.script.specs.Command.{bytesBy, drainedBy, lineRead, openBy, releaseBy, replyBy, startBy, ticksBy, told, verdictBy};
 use exchange::Primary;
 use link::Setup;
+use parse::behind;
+use parse::field;
+use parse::is_data;
+use parse::letter;
+use parse::number;
+use parse::put_data;
 use script::Command;
 use settings::Fifths;
 use settings::Seconds;
 use settings::Tenths;
-use text::behind;
-use text::field;
-use text::is_data;
-use text::letter;
-use text::number;
-use text::put_data;
 
 fn word(n: u32) -> u16
     requires { ⌜ n ≤ 65535 ⌝ }

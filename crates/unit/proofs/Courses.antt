@@ -37,6 +37,7 @@ use Rattle.link.specs.declared.Answer.{Answer}
 use Rattle.link.specs.declared.Gate.{Gate}
 use Rattle.link.specs.declared.Gate.the-variants as gate
 use Rattle.link.specs.declared.Link.{Link}
+use Rattle.unit.specs.Settle.{settledAs, settledOut}
 use Rattle.unit.specs.Short.{saysNothing, isQuiet}
 
 -- the answer, and every byte
@@ -147,24 +148,21 @@ quiet-says out.Nothing t r q = q
 quiet-says (out.Code c) t r q = q
 quiet-says out.Block t r q = absurd (false≢true q)
 
--- what the short way answers: l is the line as its step left it
-module _ (u : Link) (l : Line) (rs room o : List ℕ) (put : Out) {s : Step} {n : ℕ} {f : Flags} {now : List ℕ}
-    (line : s ≡ settleOf l) (count : n ≡ length (codes put (s .out))) (front : now ≡ onFront (codes put (s .out)) o) (none : f ≡ noFlags) where
-  shortly : left (answerAs (withHeard u (s .line) rs) n outcome.Done note.Nothing f) room now ≡ settling put (withHeard u l rs) room o
-  shortly = rw (count, front, none, line) refl
+-- what the short way answers: v is the unit as the line's step left it
+module _ (v : Link) (room o : List ℕ) (put : Out) {a : Answer} {f : Flags} {now : List ℕ}
+    (settles : (a ≡ settledAs v put outcome.Done note.Nothing f) × (now ≡ settledOut v put o)) (none : f ≡ noFlags) where
+  shortly : left a room now ≡ settling put v room o
+  shortly = closes room (settles .0 ∙ ap (λ (g : Flags). settledAs v put outcome.Done note.Nothing g) none) (settles .1)
 
   pub short-byte : (t : Told) (r : Remark) → isQuiet put t r ≡ true
-      → left (answerAs (withHeard u (s .line) rs) n outcome.Done note.Nothing f) room now
-      ≡ unlessBlock put (blockOut (withHeard u l rs) room o) (onward put false t (withHeard u l rs) (hearing t r (withHeard u l rs) room) o)
-  short-byte t r q = shortly ∙ sym (quiet-byte put t r (withHeard u l rs) room o q)
+      → left a room now ≡ unlessBlock put (blockOut v room o) (onward put false t v (hearing t r v room) o)
+  short-byte t r q = shortly ∙ sym (quiet-byte put t r v room o q)
 
   pub short-tick : (t : Told) (r : Remark) → isQuiet put t r ≡ true
-      → length (u .exchange .own) ≡ 4 → length (u .exchange .incoming) ≡ 4 → isStill (u .exchange) ≡ true
-      → left (answerAs (withHeard u (s .line) rs) n outcome.Done note.Nothing f) room now
-      ≡ onward put true t (withHeard u l rs) (hearing t r (withHeard u l rs) room) o
+      → length (v .exchange .own) ≡ 4 → length (v .exchange .incoming) ≡ 4 → isStill (v .exchange) ≡ true
+      → left a room now ≡ onward put true t v (hearing t r v room) o
   short-tick t r q four fours still =
-      shortly
-      ∙ sym (quiet-onward put true t r (withHeard u l rs) room o (quiet-says put t r q) (rw (still-tick (u .settings .terms) (u .exchange) four fours still) refl))
+      shortly ∙ sym (quiet-onward put true t r v room o (quiet-says put t r q) (rw (still-tick (v .settings .terms) (v .exchange) four fours still) refl))
 
 -- ---- a request
 

@@ -20,7 +20,7 @@ fn fits(settings: Settings, line: Line, exchange: Exchange, block: u16) -> bool
         if block <= cut::MOST_BLOCKS {
             if settings_in_range(settings) {
                 if line.in_range() {
-                    return clerk::in_range(exchange);
+                    return desk::in_range(exchange);
                 }
             }
         }

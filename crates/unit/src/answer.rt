@@ -63,7 +63,7 @@ pub fn note_number(note: Note) -> u8
 {
     match note {
         Note::Nothing => 20,
-        Note::Block(note) => clerk::note_number(note),
+        Note::Block(note) => desk::note_number(note),
         Note::NoLength => 28,
         Note::Gap => 29,
         Note::Bad(fault) => fault_number(fault),

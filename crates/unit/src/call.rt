@@ -1,13 +1,13 @@
 // The calls on the line. Each refuses by 1, 2 and 3 before it does anything.
 //
 // What a call costs is how often the unit is copied. A byte or a tick at which there is nothing to do but to settle the line, as most
-// are, takes a short way: the line and the received bytes are changed where they lie.
+// are, takes a short way: past the transactions and the courier, with the line and the received bytes changed where they lie.
 ghost use mathlib.Core.Path.{_≡_};
 ghost use Rattle.link.specs.Run.{left};
 ghost use Rattle.link.specs.Call.{byteCall, drainedCall, tickCall};
 use crate::admit::admits;
 use crate::admit::gate;
-use crate::put::put_codes;
+use crate::courier::settles;
 use crate::state::refused;
 use crate::step::is_quiet;
 use crate::step::onward;
@@ -43,22 +43,17 @@ pub fn byte(mut link: Link, b: u8, room: &mut [u8], out: &mut [u8]) -> Answer
             let put = step.out;
             let told = step.told;
             let remark = step.remark;
-            if is_quiet(put, told, remark) {
-                let end = line.settle();
-                let after = end.line;
-                let code = end.out;
-                link.line = after;
-                let count = put_codes(out, put, code);
-                let flags = clerk::no_flags();
-                return Answer {
-                    link,
-                    outcome: Outcome::Done,
-                    count,
-                    note: Note::Nothing,
-                    flags,
-                };
-            }
             link.line = line;
+            if is_quiet(put, told, remark) {
+                return settles(
+                    link,
+                    put,
+                    Outcome::Done,
+                    Note::Nothing,
+                    desk::no_flags(),
+                    out,
+                );
+            }
             unless_block(link, put, told, remark, room, out)
         }
         Gate::Shut(refusal) => refused(link, refusal),
@@ -87,24 +82,19 @@ pub fn tick(mut link: Link, room: &mut [u8], out: &mut [u8]) -> Answer
             let put = step.out;
             let told = step.told;
             let remark = step.remark;
+            link.line = line;
             if is_quiet(put, told, remark) {
                 if clerk::is_still(exchange) {
-                    let end = line.settle();
-                    let after = end.line;
-                    let code = end.out;
-                    link.line = after;
-                    let count = put_codes(out, put, code);
-                    let flags = clerk::no_flags();
-                    return Answer {
+                    return settles(
                         link,
-                        outcome: Outcome::Done,
-                        count,
-                        note: Note::Nothing,
-                        flags,
-                    };
+                        put,
+                        Outcome::Done,
+                        Note::Nothing,
+                        desk::no_flags(),
+                        out,
+                    );
                 }
             }
-            link.line = line;
             onward(link, put, true, told, remark, room, out)
         }
         Gate::Shut(refusal) => refused(link, refusal),

@@ -1,12 +1,14 @@
-// The courier between the transactions and the line, and behind it the end of a call.
+// The courier between the transactions and the line, and behind it the end of a call: the line settles.
 ghost use mathlib.Core.Path.{_≡_};
 ghost use Prim.Native.Nat.{_≤_};
 ghost use lib.ListN.{length};
 ghost use Rattle.cut.specs.Blocks.{mostBlocks};
 ghost use Rattle.link.specs.Courier.{courierOf, goesOn};
 ghost use Rattle.link.specs.Run.{left};
+ghost use Rattle.unit.specs.Settle.{settledAs, settledOut};
 use crate::put::put_codes;
 use crate::state::answers;
+use exchange::Flags;
 use exchange::Sending;
 use line::Line;
 use line::Out;
@@ -15,6 +17,7 @@ use link::Answer;
 use link::Carried;
 use link::Link;
 use link::Midway;
+use link::Note;
 use link::Outcome;
 
 // "ACK means sent; the message's next block goes out with ENQ in the same call."
@@ -65,6 +68,27 @@ fn courier(
     Carried { line, block }
 }
 
+// The last step of every call that is not refused, and the only place at which the line settles. `put` is what its step put out.
+pub(crate) fn settles(
+    mut link: Link,
+    put: Out,
+    outcome: Outcome,
+    note: Note,
+    flags: Flags,
+    out: &mut [u8],
+) -> Answer
+    requires { ⌜ 257 ≤ length (now out) ⌝ }
+    ensures { λ r. ⌜ (r ≡ settledAs link put outcome note flags) × (now (out .exit) ≡ settledOut link put (now (out .entry))) ⌝ }
+{
+    let line = link.line;
+    let end = line.settle();
+    let line = end.line;
+    let code = end.out;
+    link.line = line;
+    let count = put_codes(out, put, code);
+    answers(link, count, outcome, note, flags)
+}
+
 // From the transactions on: the courier, and the line settles. `link` is the unit as the device's step left it, which put `put` out and
 // told `told`.
 pub(crate) fn course(
@@ -88,12 +112,8 @@ pub(crate) fn course(
     let line = link.line;
     let carried = courier(was, is, told, line, link.block, room);
     let line = carried.line;
-    let end = line.settle();
-    let line = end.line;
-    let code = end.out;
     link.line = line;
     link.exchange = after;
     link.block = carried.block;
-    let count = put_codes(out, put, code);
-    answers(link, count, outcome, note, flags)
+    settles(link, put, outcome, note, flags, out)
 }

@@ -67,7 +67,7 @@ pub(crate) fn put_message(out: &mut [u8], message: Outgoing, k: u16, room: &[u8]
                 } => put_block(
                     out,
                     header,
-                    room::bytes_of(room, Message::Send, start, length),
+                    store::bytes_of(room, Message::Send, start, length),
                 ),
                 Cut::NoBlock => 0,
             }

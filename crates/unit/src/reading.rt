@@ -11,7 +11,7 @@ pub fn own(link: Link, place: usize) -> OwnReading
     ensures { λ r. ⌜ r ≡ ownOf link place ⌝ }
 {
     let exchange = link.exchange;
-    clerk::own_reading(exchange, place)
+    desk::own_reading(exchange, place)
 }
 
 // An incoming place: the header of its first block, how many data bytes are kept, whether it is complete, and our reply.
@@ -19,7 +19,7 @@ pub fn incoming(link: Link, place: usize) -> IncomingReading
     ensures { λ r. ⌜ r ≡ incomingOf link place ⌝ }
 {
     let exchange = link.exchange;
-    clerk::incoming_reading(exchange, place)
+    desk::incoming_reading(exchange, place)
 }
 
 // What is kept of the reply in an own place, as a part of the room.
@@ -32,7 +32,7 @@ pub fn reply_data(link: Link, room: &[u8], place: usize) -> &[u8]
             primary: _,
             standing: _,
             reply,
-        } => room::bytes_of(room, Message::Reply(place), 0, reply.length as usize),
+        } => store::bytes_of(room, Message::Reply(place), 0, reply.length as usize),
     }
 }
 
@@ -47,7 +47,7 @@ pub fn incoming_data(link: Link, room: &[u8], place: usize) -> &[u8]
             length,
             complete: _,
             reply: _,
-        } => room::bytes_of(room, Message::Incoming(place), 0, length as usize),
+        } => store::bytes_of(room, Message::Incoming(place), 0, length as usize),
     }
 }
 

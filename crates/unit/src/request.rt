@@ -98,7 +98,7 @@ fn freed(mut link: Link, requested: Requested) -> Answer
                 0,
                 Outcome::Taken(place),
                 Note::Nothing,
-                clerk::no_flags(),
+                desk::no_flags(),
             )
         }
         Asked::Refused(refusal) => refused(link, Refusal::Request(refusal)),

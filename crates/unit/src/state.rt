@@ -22,7 +22,7 @@ fn fresh(settings: Settings, last: u16) -> Link
         settings,
         line: Line::fresh(),
         received: [0; 256],
-        exchange: clerk::fresh(last),
+        exchange: desk::fresh(last),
         block: 1,
     }
 }
@@ -54,7 +54,7 @@ pub(crate) fn refused(link: Link, refusal: Refusal) -> Answer
         0,
         Outcome::Refused(refusal),
         Note::Nothing,
-        clerk::no_flags(),
+        desk::no_flags(),
     )
 }
 
@@ -69,7 +69,7 @@ pub fn start(setup: Setup) -> Answer
                 0,
                 Outcome::Done,
                 Note::Nothing,
-                clerk::no_flags(),
+                desk::no_flags(),
             )
         }
         Ranged::OutOfRange => { refused(fresh(no_settings(), 0), Refusal::Setting) }

@@ -61,7 +61,7 @@ fn block_out(link: Link, room: &[u8], out: &mut [u8]) -> Answer
 {
     let exchange = link.exchange;
     let count = put_message(out, clerk::outgoing(exchange), link.block, room);
-    answers(link, count, Outcome::Done, Note::Nothing, clerk::no_flags())
+    answers(link, count, Outcome::Done, Note::Nothing, desk::no_flags())
 }
 
 // The transactions are told, and the call goes on. `ticks`: whether 0.1 s pass in it.

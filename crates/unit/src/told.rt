@@ -19,7 +19,7 @@ use settings::Terms;
 pub(crate) fn untold(exchange: Exchange, note: Note) -> Midway
     ensures { λ r. ⌜ r ≡ Rattle.link.specs.Run.untold exchange note ⌝ }
 {
-    let flags = clerk::no_flags();
+    let flags = desk::no_flags();
     Midway {
         exchange,
         note,
@@ -100,7 +100,7 @@ fn judged(link: Link, n: u8, room: &mut [u8]) -> Midway
     let exchange = link.exchange;
     let received = link.received;
     let header = header_in(received);
-    let judged = clerk::judge(
+    let judged = judging::judge(
         exchange,
         link.settings.terms,
         header,

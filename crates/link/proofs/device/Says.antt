@@ -14,17 +14,18 @@ use Rattle.exchange.specs.Flags.{noFlags}
 use Rattle.exchange.specs.Send.{sentOf, failedOf}
 use Rattle.exchange.specs.Judge.{judgeOf}
 use Rattle.exchange.specs.History as exchange
-use Rattle.link.specs.Answer.{noteBy}
-use Rattle.link.specs.Run.{Left, hasNext, untold, changedTo, judgedAs, passing, hears, hearing, byteStep}
+use Rattle.link.specs.Answer.{accepted, noteBy}
+use Rattle.link.specs.Run.{Left, hasNext, untold, changedTo, judgedAs, passing, hears, hearing, stepped, byteStepped}
 use Rattle.link.specs.Call.{gated}
 use Rattle.link.specs.History.{Call, byte, tick, drained, request, called, Made, stepIn, toldOn, heardBy, lentRoom, Track, answered}
-use Rattle.link.specs.Verdicts.{accepts, Accepted}
+use Rattle.link.specs.Verdicts.{Accepted}
 use Rattle.link.specs.Moves.{Refused}
 use Rattle.link.specs.declared.Midway.{Midway}
 use Rattle.link.specs.declared.Note.{Note}
 use Rattle.link.specs.declared.Note.the-variants as note
 use Rattle.link.specs.declared.Link.{Link}
 use Rattle.link.proofs.Cases.{by-gate, by-byte, by-sent, by-request}
+use Rattle.link.proofs.Steps.{at-byte, at-tick, at-drained}
 
 -- ---- the device's step
 
@@ -63,7 +64,7 @@ saidIn u room k = passing (ticks k) (u .settings .terms) (heardBy u (stepIn u k)
 -- note and flags are these, unless it is refused
 abbrev Says : Midway → Left → Type 0
 Says m l =
-    (l .answer .note ≡ cond (accepts (l .answer .outcome)) (m .note) note.Nothing) × (l .answer .flags ≡ cond (accepts (l .answer .outcome)) (m .flags) noFlags)
+    (l .answer .note ≡ cond (accepted (l .answer .outcome)) (m .note) note.Nothing) × (l .answer .flags ≡ cond (accepted (l .answer .outcome)) (m .flags) noFlags)
 
 module _ (u : Link) (room o : List ℕ) where
   shut-says : (k : Call) (l : Left) → Says (saidIn u room k) l → Says (saidIn u room k) (gated u room o l)
@@ -72,14 +73,16 @@ module _ (u : Link) (room o : List ℕ) where
   -- where the whole block leaves, nothing is told or remarked
   said : (k : Call) → Says (saidIn u room k) (called u room o k)
   said (byte b fits) =
+      let h = stepIn u (byte b fits) in
       shut-says (byte b fits) _
-      (by-byte (λ p l. Says (saidIn u room (byte b fits)) l) u (byteStep u b) room o (λ e. (refl, refl)) (λ c e. (refl, refl))
+      (at-byte (λ s. Says (saidIn u room (byte b fits)) (byteStepped u s room o)) u b fits
+      (by-byte (λ p l. Says (saidIn u room (byte b fits)) l) u h room o (λ e. (refl, refl)) (λ c e. (refl, refl))
       (λ e.
       let quiet = block-alone (u .settings .limits) (u .line) (u .received) .block (line.byte b fits) e in
-      let heard : untold (u .exchange) note.Nothing ≡ saidIn u room (byte b fits) = λ i. hearing (sym (quiet .told) i) (sym (quiet .remark) i) (hears u (byteStep u b)) room .midway in
-      (ap (λ (m : Midway). m .note) heard, ap (λ (m : Midway). m .flags) heard)))
-  said tick = shut-says tick _ (refl, refl)
-  said drained = shut-says drained _ (refl, refl)
+      let heard : untold (u .exchange) note.Nothing ≡ saidIn u room (byte b fits) = λ i. hearing (sym (quiet .told) i) (sym (quiet .remark) i) (hears u h) room .midway in
+      (ap (λ (m : Midway). m .note) heard, ap (λ (m : Midway). m .flags) heard))))
+  said tick = shut-says tick _ (at-tick (λ s. Says (saidIn u room tick) (stepped true u s room o)) u (refl, refl))
+  said drained = shut-says drained _ (at-drained (λ s. Says (saidIn u room drained) (stepped false u s room o)) u (refl, refl))
   said (request r) =
       by-request u r room o (Says (saidIn u room (request r))) (λ n e. (refl, refl)) (λ p e l. (refl, refl)) (λ p e l. (refl, refl)) (λ n. (refl, refl))
 

@@ -22,9 +22,9 @@ use Rattle.line.specs.declared.line.Line.{Line}
 use Rattle.exchange.specs.Request.{Request, lends, isSending}
 use Rattle.exchange.specs.declared.Asked.the-variants as asked
 use Rattle.link.specs.Courier.{courierBy}
-use Rattle.link.specs.Run.{Left, untold, carriedBy, codes, course, blockBytes, hears, passing, stepped, byteStepped, byteStep}
+use Rattle.link.specs.Run.{Left, untold, carriedBy, codes, course, blockBytes, hears, passing, stepped, byteStepped}
 use Rattle.link.specs.Call.{gated, requestedBy}
-use Rattle.link.specs.History.{Call, byte, tick, drained, request, called, unlessRefused, heardBy, couriers, settling, settles, couriersIn, onLine}
+use Rattle.link.specs.History.{Call, byte, tick, drained, request, called, unlessRefused, stepIn, heardBy, couriers, settling, settles, couriersIn, onLine}
 use Rattle.link.specs.Door.{bytesLeft, lineBytes, LeavesByLine}
 use Rattle.link.specs.declared.Outcome.{Outcome}
 use Rattle.link.specs.declared.Outcome.the-variants as outcome
@@ -32,7 +32,8 @@ use Rattle.link.specs.declared.Note.the-variants as note
 use Rattle.link.specs.declared.Midway.{Midway}
 use Rattle.link.specs.declared.Link.{Link}
 use Rattle.link.proofs.Cases.{by-gate, by-byte, by-request, answering}
-use Rattle.link.proofs.door.Courier.{by-courier}
+use Rattle.link.proofs.Steps.{at-byte, at-tick, at-drained}
+use Rattle.link.proofs.inside.Courier.{by-courier}
 
 -- ---- the line's part
 
@@ -108,10 +109,10 @@ module _ (u : Link) (room o : List ℕ) where
   unfolding lineBytes
   shut-out ks l w = by-gate (Put ks) u room o l (λ r e. refl) (λ e. w)
 
-  byte-bytes : (b : ℕ) (fits : b < 256) → Put (onLine u room (byte b fits)) (byteStepped u (byteStep u b) room o)
+  byte-bytes : (b : ℕ) (fits : b < 256) → Put (onLine u room (byte b fits)) (byteStepped u (stepIn u (byte b fits)) room o)
   unfolding lineBytes
   byte-bytes b fits =
-      let h = byteStep u b in
+      let h = stepIn u (byte b fits) in
       by-byte (λ p l. Put (line.byte b fits ∷ settles p (couriersIn u room (byte b fits))) l) u h room o
       (λ e. step-bytes (line.byte b fits) false (rw e refl)) (λ c e. step-bytes (line.byte b fits) false (rw e refl))
       (λ e. front-left block o ∙ sym (ap (λ p. bytesOut block p ++ []) e ∙ append-nil block))
@@ -135,12 +136,13 @@ module _ (u : Link) (room o : List ℕ) where
       by false l = by-request u r room o (Put []) (λ n e. refl) (λ p e k. absurd (false≢true (sym l ∙ k))) (λ p e k. refl) (λ n. refl)
 
   pub called-bytes : (k : Call) → Put (onLine u room k) (called u room o k)
-  called-bytes (byte b fits) = shut-out (onLine u room (byte b fits)) _ (byte-bytes b fits)
+  called-bytes (byte b fits) = shut-out (onLine u room (byte b fits)) _ (at-byte (λ h. Put (onLine u room (byte b fits)) (byteStepped u h room o)) u b fits (byte-bytes b fits))
   called-bytes tick =
       let c = u .settings .limits in
       shut-out (onLine u room tick) _
-      (step-bytes line.tick true (by-tick (NoBlock block) c (u .line .held) (u .line .phase) (tick-codes block c (u .line .held) (u .line .phase))))
-  called-bytes drained = shut-out (onLine u room drained) _ (step-bytes line.drained false refl)
+      (at-tick (λ h. Put (onLine u room tick) (stepped true u h room o)) u
+      (step-bytes line.tick true (by-tick (NoBlock block) c (u .line .held) (u .line .phase) (tick-codes block c (u .line .held) (u .line .phase)))))
+  called-bytes drained = shut-out (onLine u room drained) _ (at-drained (λ h. Put (onLine u room drained) (stepped false u h room o)) u (step-bytes line.drained false refl))
   called-bytes (request r) = request-bytes r
 
 pub leaves-by-line : LeavesByLine

@@ -21,11 +21,12 @@ use Rattle.line.specs.declared.phase.Phase.the-variants.{Idle, WaitEot, Drainin
 use Rattle.line.specs.declared.line.Line.{Line}
 use Rattle.line.specs.declared.step.Out.{Out}
 use Rattle.line.specs.declared.step.Out.the-variants as out
-use Rattle.link.specs.Run.{blockBytes, byteStep}
+use Rattle.link.specs.Answer.{accepted}
+use Rattle.link.specs.Run.{blockBytes}
 use Rattle.link.specs.Reading.{sendingOf}
-use Rattle.link.specs.History.{byte, unlessRefused, settles, couriersIn, onLine, Track, lineTrack, limitsIn, lentRoom, Made, answered, next}
+use Rattle.link.specs.History.{byte, unlessRefused, stepIn, settles, couriersIn, onLine, Track, lineTrack, limitsIn, lentRoom, Made, answered, next}
 use Rattle.link.specs.Inside.{Reached}
-use Rattle.link.specs.Door.{lineBytes, onWay, accepted, kind, watches, Watch, watchOf, AtDoor, SendWithin, SendEnds, TriesAreEnqs, made, EachEnqItsBlock, NoneForgotten, ReceiveWithin, ReceiveEnds, followed, OverBy, ReceiveEndsBy, HeldFollows, SendEndsBy}
+use Rattle.link.specs.Door.{lineBytes, onWay, kind, watches, Watch, watchOf, AtDoor, SendWithin, SendEnds, TriesAreEnqs, made, EachEnqItsBlock, NoneForgotten, ReceiveWithin, ReceiveEnds, followed, OverBy, ReceiveEndsBy, HeldFollows, SendEndsBy}
 use Rattle.link.specs.declared.Settings.{Settings}
 use Rattle.link.specs.declared.Outcome.{Outcome}
 use Rattle.link.specs.declared.Outcome.the-variants as outcome
@@ -91,7 +92,7 @@ door-each-enq-its-block t w a e fits room o taken =
     let c = limitsIn t in
     let lent = lentRoom room (t .room) in
     let block = blockBytes u lent in
-    let h = byteStep u EOT in
+    let h = stepIn u (byte EOT fits) in
     let goes = each-enq-its-block c (lineTrack t) (line-inside t (a .reached)) (sym (ap (λ (v : Watch). v .ours) (door-right t w a)) ∙ e) (line.byte EOT fits) refl in
     called-bytes u lent o (byte EOT fits)
     ∙ ap (lineBytes c (u .line) (u .received) block) (unrefused (answered t (made (byte EOT fits) room o) .answer .outcome) (onLine u lent (byte EOT fits)) taken)

@@ -12,13 +12,13 @@ use Rattle.line.specs.declared.step.Told.{Told}
 use Rattle.line.specs.declared.step.Told.the-variants as told
 use Rattle.exchange.specs.History as exchange
 use Rattle.exchange.specs.Request.{lends, isSending}
-use Rattle.link.specs.Run.{hasNext, byteStep}
+use Rattle.link.specs.Run.{hasNext}
 use Rattle.link.specs.History.{Call, byte, tick, drained, request, unlessRefused, stepIn, toldOn, itself, exchangeIn, settling, settles, couriersIn, onLine, onExchange, cameTo}
 use Rattle.link.specs.Door.{kind, ticksBy, lineTicks, exchangeTicks, TicksCounted}
 use Rattle.link.specs.declared.Outcome.{Outcome}
 use Rattle.link.specs.declared.Outcome.the-variants as outcome
 use Rattle.link.specs.declared.Link.{Link}
-use Rattle.link.proofs.door.Courier.{by-courier}
+use Rattle.link.proofs.inside.Courier.{by-courier}
 
 -- ticks that a call should be
 abbrev due : Call → ℕ
@@ -40,7 +40,7 @@ module _ (u : Link) (room : List ℕ) where
 
   line-ticks : (k : Call) → lineTicks (onLine u room k) ≡ due k
   unfolding lineTicks
-  line-ticks (byte b fits) = rw (settles-none (byteStep u b .step .out) (couriersIn u room (byte b fits)) (courier-none (byte b fits))) refl
+  line-ticks (byte b fits) = rw (settles-none (stepIn u (byte b fits) .step .out) (couriersIn u room (byte b fits)) (courier-none (byte b fits))) refl
   line-ticks tick = rw (courier-none tick) refl
   line-ticks drained = rw (courier-none drained) refl
   line-ticks (request r) = chosen (λ ks. lineTicks ks ≡ 0) (lends r) _ _ (λ e. courier-none (request r)) (λ e. refl)

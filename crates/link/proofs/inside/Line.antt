@@ -9,13 +9,15 @@ use Rattle.line.specs.declared.step.Told.{Told}
 use Rattle.line.specs.declared.step.Told.the-variants as told
 use Rattle.exchange.specs.Request.{Request, lends, isSending}
 use Rattle.exchange.specs.declared.Exchange.{Exchange}
-use Rattle.link.specs.Courier.{courierBy}
-use Rattle.link.specs.Run.{Left, closed, hears, passing, stepped, byteStepped, byteStep}
+use Rattle.link.specs.Courier.{carried, courierBy}
+use Rattle.link.specs.Run.{Left, closed, hears, passing, stepped, byteStepped}
 use Rattle.link.specs.Call.{gated}
-use Rattle.link.specs.History.{Call, byte, tick, drained, request, called, unlessRefused, heardBy, couriers, settling, settles, couriersIn, onLine}
+use Rattle.link.specs.History.{Call, byte, tick, drained, request, called, unlessRefused, stepIn, heardBy, couriers, settling, settles, couriersIn, onLine}
 use Rattle.link.specs.Inside.{lineOf, SettingsKept, LineGoes}
 use Rattle.link.specs.declared.Link.{Link}
 use Rattle.link.proofs.Cases.{by-gate, by-byte, by-request, answering}
+use Rattle.link.proofs.Steps.{at-byte, at-tick, at-drained}
+use Rattle.link.proofs.inside.Courier.{by-courier}
 
 -- unit v is where these calls bring the line and the received bytes of unit u, at the same settings
 abbrev Leads : Link → line.Seen → List line.Call → Link → Type 0
@@ -27,13 +29,8 @@ Leads u s ks v =
 courier-leads : (u : Link) (s : line.Seen) (before after : Bool) (t : Told) (x : Exchange)
     → Leads u s (settling (couriers before after t)) (closed u (courierBy before after t (u .line) (u .block)) x)
 unfolding line.track
-courier-leads u s false false t x = (refl, refl, refl)
-courier-leads u s false true t x = (refl, refl, refl)
-courier-leads u s true false t x = (refl, refl, refl)
-courier-leads u s true true told.Nothing x = (refl, refl, refl)
-courier-leads u s true true told.Sent x = (refl, refl, refl)
-courier-leads u s true true told.Failed x = (refl, refl, refl)
-courier-leads u s true true (told.Up n) x = (refl, refl, refl)
+courier-leads u s before after t x =
+    by-courier (λ ks m. Leads u s (settling ks) (closed u (carried m (u .block)) x)) (u .line) (u .block) (refl, refl, refl) (refl, refl, refl) (refl, refl, refl) before after t
 
 -- a step of the line, and what is behind it
 module _ (v : Link) (s : line.Seen) (k : line.Call) (ticks : Bool) (room o : List ℕ) where
@@ -59,11 +56,11 @@ module _ (u : Link) (s : line.Seen) (room o : List ℕ) where
   unfolding line.track
   shut-out ks l w = by-gate (After ks) u room o l (λ r e. (refl, refl, refl)) (λ e. w)
 
-  byte-leads : (b : ℕ) (fits : b < 256) → After (onLine u room (byte b fits)) (byteStepped u (byteStep u b) room o)
+  byte-leads : (b : ℕ) (fits : b < 256) → After (onLine u room (byte b fits)) (byteStepped u (stepIn u (byte b fits)) room o)
   unfolding line.track
   byte-leads b fits =
       let lead = step-leads u s (line.byte b fits) false room o in
-      by-byte (λ p l. After (line.byte b fits ∷ settles p (couriersIn u room (byte b fits))) l) u (byteStep u b) room o
+      by-byte (λ p l. After (line.byte b fits ∷ settles p (couriersIn u room (byte b fits))) l) u (stepIn u (byte b fits)) room o
       (λ e. lead) (λ c e. lead) (λ e. (refl, refl, refl))
 
   request-leads : (r : Request) → After (onLine u room (request r)) (called u room o (request r))
@@ -79,9 +76,9 @@ module _ (u : Link) (s : line.Seen) (room o : List ℕ) where
           by-request u r room o (After []) (λ n e. (refl, refl, refl)) (λ p e k. absurd (false≢true (sym l ∙ k))) (λ p e k. (refl, refl, refl)) (λ n. (refl, refl, refl))
 
   called-leads : (k : Call) → After (onLine u room k) (called u room o k)
-  called-leads (byte b fits) = shut-out (onLine u room (byte b fits)) _ (byte-leads b fits)
-  called-leads tick = shut-out (onLine u room tick) _ (step-leads u s line.tick true room o)
-  called-leads drained = shut-out (onLine u room drained) _ (step-leads u s line.drained false room o)
+  called-leads (byte b fits) = shut-out (onLine u room (byte b fits)) _ (at-byte (λ h. After (onLine u room (byte b fits)) (byteStepped u h room o)) u b fits (byte-leads b fits))
+  called-leads tick = shut-out (onLine u room tick) _ (at-tick (λ h. After (onLine u room tick) (stepped true u h room o)) u (step-leads u s line.tick true room o))
+  called-leads drained = shut-out (onLine u room drained) _ (at-drained (λ h. After (onLine u room drained) (stepped false u h room o)) u (step-leads u s line.drained false room o))
   called-leads (request r) = request-leads r
 
 pub line-goes : LineGoes

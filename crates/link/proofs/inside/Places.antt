@@ -4,10 +4,13 @@ use mathlib.Core.Path.{_≡_, refl, sym, ap, subst, _∙_}
 use mathlib.Core.List.{List}
 use Rattle.exchange.specs.History as exchange
 use Rattle.exchange.specs.Theorems.{Reached as ExchangeReached}
-use Rattle.exchange.specs.Watching.{OwnAt, IncomingAt}
+use Rattle.exchange.specs.Releases.{Side}
+use Rattle.exchange.specs.Releases as side
+use Rattle.exchange.specs.Watching.{watch}
 use Rattle.exchange.proofs.AnyRoom.{track-alike}
 use Rattle.exchange.proofs.Runs.{Sound, reached-more, reached-fresh, sound-reached, three-equal}
-use Rattle.exchange.proofs.Watching.{own-all, incoming-all, own-at-start, incoming-at-start}
+use Rattle.exchange.proofs.Sides.{Seen, Reached as PlaceReached, place, watches}
+use Rattle.exchange.proofs.Watching.{watched-all, watched-start}
 use Rattle.link.specs.History.{Made, Track, exchangeTrack, termsIn, onExchangeIn, lentRoom, next}
 use Rattle.link.specs.Inside.{Always, InSomeRoom, ExchangeInside, Watched, PlacesInside}
 use Rattle.link.specs.declared.Settings.{Settings}
@@ -58,19 +61,17 @@ sound-inside t w = let x = exchange-inside t w in sound-reached (termsIn t) (exc
 
 -- ---- the places
 
-module _ (t : Track) (m : Made) (g : Watched t) (s : Sound (t .link .exchange)) (p : ℕ) (k : p < 4) where
-  own-next : OwnAt (termsIn (next t m)) p (next t m .link .exchange) (next t m .own p)
-  own-next =
-      three-equal (λ d x z. OwnAt d p x z) (sym (same-terms t m)) (goes t m) refl
-      (own-all (termsIn t) p k (exchangeTrack t (lent t m)) (t .own p) (onExchangeIn t m) s (g .own p k))
-
-  incoming-next : IncomingAt (termsIn (next t m)) p (next t m .link .exchange) (next t m .incoming p)
-  incoming-next =
-      three-equal (λ d x z. IncomingAt d p x z) (sym (same-terms t m)) (goes t m) refl
-      (incoming-all (termsIn t) p k (exchangeTrack t (lent t m)) (t .incoming p) (onExchangeIn t m) s (g .incoming p k))
+module _ (t : Track) (m : Made) (s : Sound (t .link .exchange)) (p : ℕ) (k : p < 4) where
+  -- one on this side, of which y was seen
+  place-next : (z : Side) (y : Seen z) → PlaceReached z (termsIn t) (place z (t .link .exchange) p) y
+      → PlaceReached z (termsIn (next t m)) (place z (next t m .link .exchange) p) (watch (termsIn t) (watches z (termsIn t) p) (exchangeTrack t (lent t m)) y (onExchangeIn t m))
+  place-next z y g =
+      three-equal (λ d x v. PlaceReached z d (place z x p) v) (sym (same-terms t m)) (goes t m) refl (watched-all z (termsIn t) p k (exchangeTrack t (lent t m)) y (onExchangeIn t m) s g)
 
 pub places-inside : PlacesInside
 places-inside t w =
     by-calls Watched
-    (λ v r m g. let s = sound-inside v r in record { own = own-next v m g s; incoming = incoming-next v m g s })
-    t w (record { own = λ p k. own-at-start (w .settings .terms) p (w .setup .last); incoming = λ p k. incoming-at-start (w .settings .terms) p (w .setup .last) })
+    (λ v r m g.
+    let s = sound-inside v r in
+    record { own = λ p k. place-next v m s p k side.own (v .own p) (g .own p k); incoming = λ p k. place-next v m s p k side.incoming (v .incoming p) (g .incoming p k) })
+    t w (record { own = λ p k. watched-start side.own (w .settings .terms) p (w .setup .last); incoming = λ p k. watched-start side.incoming (w .settings .terms) p (w .setup .last) })

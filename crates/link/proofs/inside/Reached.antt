@@ -6,6 +6,7 @@ use lib.ListN.{replicate}
 use Rattle.settings.specs.declared.limits.Limits.{Limits}
 use Rattle.line.specs.History as line
 use Rattle.line.specs.Theorems.{Reached as LineReached}
+use Rattle.exchange.proofs.Runs.{go-on}
 use Rattle.link.specs.History.{Made, Track, lineTrack, limitsIn, onLineIn, lentRoom, next, track, atStart}
 use Rattle.link.specs.Inside.{Reached, SettingsStay, LineInside}
 use Rattle.link.specs.declared.Settings.{Settings}
@@ -13,13 +14,9 @@ use Rattle.link.proofs.inside.Line.{line-goes, settings-kept}
 
 -- ---- any calls
 
-track-more : (t : Track) (ms : List Made) (m : Made) → track t (ms ++ (m ∷ [])) ≡ next (track t ms) m
-unfolding track
-track-more t [] m = refl
-track-more t (l ∷ ms) m = track-more (next t l) ms m
-
 -- one call more
 pub reached-next : (t : Track) → Reached t → (m : Made) → Reached (next t m)
+unfolding track
 reached-next t w m = record {
   setup = w .setup;
   settings = w .settings;
@@ -27,7 +24,7 @@ reached-next t w m = record {
   room = w .room;
   whole = w .whole;
   calls = w .calls ++ (m ∷ []);
-  so = track-more (atStart (w .settings) (w .setup .last) (w .room)) (w .calls) m ∙ ap (λ (v : Track). next v m) (w .so);
+  so = go-on next track (λ v. refl) (λ v l ms. refl) (atStart (w .settings) (w .setup .last) (w .room)) t (w .calls) (m ∷ []) (w .so);
 }
 
 -- the start
@@ -55,18 +52,14 @@ settings-stay t w =
 
 -- ---- the line
 
-line-more : (c : Limits) (t : line.Track) (ks js : List line.Call) → line.track c t (ks ++ js) ≡ line.track c (line.track c t ks) js
-unfolding line.track
-line-more c t [] js = refl
-line-more c t (k ∷ ks) js = line-more c (line.next c t k) ks js
-
 -- a line after some calls more
 reached-line : (c : Limits) (t : line.Track) → LineReached c t → (ks : List line.Call) → LineReached c (line.track c t ks)
+unfolding line.track
 reached-line c t w ks = record {
   received = w .received;
   room = w .room;
   calls = w .calls ++ ks;
-  so = line-more c (line.atStart (w .received)) (w .calls) ks ∙ ap (λ (v : line.Track). line.track c v ks) (w .so);
+  so = go-on (line.next c) (line.track c) (λ v. refl) (λ v k js. refl) (line.atStart (w .received)) t (w .calls) ks (w .so);
 }
 
 fresh-line : (c : Limits) → LineReached c (line.atStart (replicate 256 0))

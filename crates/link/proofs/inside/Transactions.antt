@@ -15,13 +15,14 @@ use Rattle.exchange.specs.Tick.{tickOf}
 use Rattle.exchange.proofs.Runs.{track-more}
 use Rattle.exchange.specs.declared.Exchange.{Exchange}
 use Rattle.link.specs.Answer.{noteBy}
-use Rattle.link.specs.Run.{Left, hasNext, blockOut, hears, hearing, stepped, byteStepped, byteStep}
+use Rattle.link.specs.Run.{Left, hasNext, blockOut, hears, hearing, stepped, byteStepped}
 use Rattle.link.specs.Call.{gated}
-use Rattle.link.specs.History.{Call, byte, tick, drained, request, called, unlessRefused, toldOn, onExchange}
+use Rattle.link.specs.History.{Call, byte, tick, drained, request, called, unlessRefused, stepIn, toldOn, onExchange}
 use Rattle.link.specs.Inside.{exchangeOf, ExchangeGoes}
 use Rattle.link.specs.declared.Midway.{Midway}
 use Rattle.link.specs.declared.Link.{Link}
 use Rattle.link.proofs.Cases.{by-gate, by-byte, by-sent, by-request, unlent-room}
+use Rattle.link.proofs.Steps.{at-byte, at-tick, at-drained}
 
 module _ (u : Link) (room : List ℕ) (j : exchange.Joined) where
   -- these calls bring the transactions and the room where the unit's are
@@ -50,7 +51,7 @@ module _ (u : Link) (room : List ℕ) (j : exchange.Joined) where
   unfolding exchange.track
   then-tick ks x after w =
       let c = u .settings .terms in
-      let e = track-more c (exchangeOf u room j) ks (exchange.tick ∷ []) in
+      let e = track-more c (exchangeOf u room j) _ ks (exchange.tick ∷ []) refl in
       (ap (λ (t : exchange.Track). t .exchange) e ∙ ap (λ (y : Exchange). tickOf c y .exchange) (w .0), ap (λ (t : exchange.Track). t .room) e ∙ w .1)
 
   abbrev After : List exchange.Call → Left → Type 0
@@ -71,14 +72,14 @@ module _ (u : Link) (room : List ℕ) (j : exchange.Joined) where
     tick-leads = then-tick tells _ _ (told-leads (made .step .told) (made .step .remark) made)
 
   -- in the step that puts the whole block out nothing is told
-  byte-leads : (b : ℕ) (fits : b < 256) (lent : List ℕ) → After (onExchange u (byte b fits)) (byteStepped u (byteStep u b) room lent)
+  byte-leads : (b : ℕ) (fits : b < 256) (lent : List ℕ) → After (onExchange u (byte b fits)) (byteStepped u (stepIn u (byte b fits)) room lent)
   unfolding exchange.track
   byte-leads b fits lent =
-      by-byte (λ p l. After (onExchange u (byte b fits)) l) u (byteStep u b) room lent
+      by-byte (λ p l. After (onExchange u (byte b fits)) l) u (stepIn u (byte b fits)) room lent
       (λ e. step-leads (line.byte b fits) lent) (λ c e. step-leads (line.byte b fits) lent)
       (λ e.
       let quiet = block-alone (u .settings .limits) (u .line) (u .received) .block (line.byte b fits) e .told in
-      subst (λ (t : Told). After (toldOn t (hasNext u) (byteStep u b .received) ++ []) (blockOut (hears u (byteStep u b)) room lent)) (sym quiet) (refl, refl))
+      subst (λ (t : Told). After (toldOn t (hasNext u) (stepIn u (byte b fits) .received) ++ []) (blockOut (hears u (stepIn u (byte b fits))) room lent)) (sym quiet) (refl, refl))
 
   -- ---- a request
 
@@ -95,9 +96,9 @@ module _ (u : Link) (room : List ℕ) (j : exchange.Joined) where
   shut-out ks l lent w = by-gate (After ks) u room lent l (λ r e. (refl, refl)) (λ e. w)
 
   called-leads : (lent : List ℕ) (k : Call) → After (onExchange u k) (called u room lent k)
-  called-leads lent (byte b fits) = shut-out (onExchange u (byte b fits)) _ lent (byte-leads b fits lent)
-  called-leads lent tick = shut-out (onExchange u tick) _ lent (tick-leads line.tick lent)
-  called-leads lent drained = shut-out (onExchange u drained) _ lent (step-leads line.drained lent)
+  called-leads lent (byte b fits) = shut-out (onExchange u (byte b fits)) _ lent (at-byte (λ h. After (onExchange u (byte b fits)) (byteStepped u h room lent)) u b fits (byte-leads b fits lent))
+  called-leads lent tick = shut-out (onExchange u tick) _ lent (at-tick (λ h. After (onExchange u tick) (stepped true u h room lent)) u (tick-leads line.tick lent))
+  called-leads lent drained = shut-out (onExchange u drained) _ lent (at-drained (λ h. After (onExchange u drained) (stepped false u h room lent)) u (step-leads line.drained lent))
   called-leads lent (request r) = request-leads r lent
 
 pub exchange-goes : ExchangeGoes

@@ -31,10 +31,11 @@ use Rattle.exchange.proofs.Flagging.{unmarked, unflagged}
 use Rattle.exchange.proofs.Telling.{flags-exactly}
 use Rattle.exchange.proofs.Releases.{verdict-stays}
 use Rattle.exchange.proofs.Runs.{Each, none, one-more, Sound, four-places, sound-on}
+use Rattle.link.specs.Answer.{accepted}
 use Rattle.link.specs.Run.{eitherMarks, bothFlags, passing}
 use Rattle.link.specs.History.{Call, byte, tick, drained, request, onExchange, Made, Track, exchangeTrack, termsIn, answered, onExchangeIn}
 use Rattle.link.specs.Inside.{Reached}
-use Rattle.link.specs.Verdicts.{Among, here, accepts, Tells}
+use Rattle.link.specs.Verdicts.{Among, here, Tells}
 use Rattle.link.specs.Moves.{onTheLine, ThrowsOut, FlagsLifted}
 use Rattle.link.specs.declared.Midway.{Midway}
 use Rattle.link.specs.declared.Note.{Note}
@@ -251,6 +252,6 @@ flags-lifted t w m =
           (subst (Raises t w m) (sym (accepted-says t m a .1)) (line-raises t w m (m .call) o (accepted-calls t m a)));
       refused = λ r. refused-says t m r .1;
       request = λ o.
-          either (accepts (answered t m .answer .outcome)) (λ z. answered t m .answer .flags ≡ noFlags)
+          either (accepted (answered t m .answer .outcome)) (λ z. answered t m .answer .flags ≡ noFlags)
           (λ a. accepted-says t m a .1 ∙ request-raises (t .link) (lent t m) (m .call) o) (λ r. refused-says t m r .1);
     }

@@ -21,11 +21,11 @@ use Rattle.exchange.specs.declared.Note.{Note as BlockNote}
 use Rattle.exchange.specs.declared.Note.the-variants as kept
 use Rattle.exchange.proofs.Notes.{notes-exactly}
 use Rattle.exchange.proofs.Runs.{four-places}
-use Rattle.link.specs.Answer.{noteNumber, noteBy}
+use Rattle.link.specs.Answer.{accepted, noteNumber, noteBy}
 use Rattle.link.specs.Run.{passing, hears, hearing}
 use Rattle.link.specs.History.{Made, stepIn, itself, Track, termsIn, answered}
 use Rattle.link.specs.Inside.{Reached}
-use Rattle.link.specs.Verdicts.{accepts, Accepted, Among, here}
+use Rattle.link.specs.Verdicts.{Accepted, Among, here}
 use Rattle.link.specs.Moves.{noted, GoesUp, Remarks, unnoted, Noted, refused, nothing, block, no-length, gap, bad-length, bad-sum, NotesLifted}
 use Rattle.link.specs.declared.Midway.{Midway}
 use Rattle.link.specs.declared.Note.{Note}
@@ -165,7 +165,7 @@ module _ (t : Track) (w : Reached t) (m : Made) where
 
   noted-so : Noted t m (noted t m)
   noted-so =
-      either (accepts (answered t m .answer .outcome)) (λ z. Noted t m (noted t m)) accepted-noted
+      either (accepted (answered t m .answer .outcome)) (λ z. Noted t m (noted t m)) accepted-noted
       (λ r. subst (Noted t m) (sym (ap noteNumber (refused-says t m r .0))) (refused r))
 
   so-noted : {n : ℕ} → Noted t m n → noted t m ≡ n
@@ -194,7 +194,7 @@ outside (remark.Bad (fault.Sum came counted)) a b = omega arith
 -- so a block went up
 pub rose : (t : Track) (m : Made) → 21 ≤ noted t m → noted t m ≤ 27 → Rose t m
 rose t m a b =
-    either (accepts (answered t m .answer .outcome)) (λ z. Rose t m)
+    either (accepted (answered t m .answer .outcome)) (λ z. Rose t m)
     (λ z.
     ⊎-elim (λ g. g) (λ e. absurd (outside (stepIn (t .link) (m .call) .step .remark) (subst (λ k. 21 ≤ k) e a) (subst (λ k. k ≤ 27) e b))) (rises t m z))
     (λ r. absurd (omega (arith, ap noteNumber (refused-says t m r .0))))

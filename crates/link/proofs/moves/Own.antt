@@ -27,7 +27,7 @@ use Rattle.exchange.specs.Judge.{judgeOf}
 use Rattle.exchange.specs.Request.{refusedBy, releaseOwn, Request, primary, reply, free-own, free-incoming, answerOf}
 use Rattle.exchange.specs.Rules.{Fours, LowestAt, OfReply}
 use Rattle.exchange.specs.History as exchange
-use Rattle.exchange.specs.Watching.{foundAt, sentFrom, toldBy, acceptedAs, ownTaken, ownSees, OwnAt}
+use Rattle.exchange.specs.Watching.{foundAt, sentFrom, toldBy, acceptedAs, ownTaken, ownSees}
 use Rattle.exchange.specs.Underway.{Underway}
 use Rattle.exchange.specs.declared.Note.{Note}
 use Rattle.exchange.specs.declared.Exchange.{Exchange}
@@ -38,9 +38,8 @@ use Rattle.exchange.proofs.Accepting.{not-taken, accepted-opens}
 use Rattle.exchange.proofs.Finding.{lowest}
 use Rattle.exchange.proofs.Judging.{reply-says}
 use Rattle.exchange.proofs.Joining.{anew-here}
-use Rattle.exchange.proofs.Runs.{four-places, run-any}
-use Rattle.exchange.proofs.Underway.{acknowledged-apart, lost-apart, none-apart, underway-on}
-use Rattle.exchange.proofs.Watching.{own-watched-on}
+use Rattle.exchange.proofs.Runs.{four-places}
+use Rattle.exchange.proofs.Underway.{acknowledged-apart, lost-apart, none-apart, underway-all}
 use Rattle.link.specs.History.{Made, Track, exchangeTrack, termsIn, answered, onExchangeIn, next}
 use Rattle.link.specs.Inside.{Reached}
 use Rattle.link.specs.Verdicts.{Tells, FreesOwn}
@@ -74,11 +73,8 @@ pub underway-exactly : UnderwayExactly
 underway-exactly t w p k =
     by-calls (λ v. Underway p (v .link .exchange) (v .own p))
     (λ v r m g.
-    let c = termsIn v in
     subst (λ x. Underway p x (next v m .own p)) (goes v m)
-    (run-any c (ownSees c p) (λ x s. OwnAt c p x s × Underway p x s)
-    (λ x room s e a b. (own-watched-on c x room (a .good .own-four) p k s e (b .0), underway-on c x room (four-places x a) p k s (b .0) (b .1) e))
-    (exchangeTrack v (lent v m)) (v .own p) (onExchangeIn v m) (sound-inside v r) (places-inside v r .own p k, g) .1))
+    (underway-all (termsIn v) p k (exchangeTrack v (lent v m)) (v .own p) (onExchangeIn v m) (sound-inside v r) (places-inside v r .own p k, g) .1))
     t w (λ e. absurd (none-apart e), λ e. absurd (false≢true e))
 
 -- ---- what was found

@@ -12,7 +12,7 @@ use Rattle.exchange.proofs.Accepting.{accepted-opens, accepted-replies, accepte
 use Rattle.exchange.proofs.Releases.{lent-exactly}
 use Rattle.link.specs.Run.{stepped, byteStep, byteStepped, tickStep, drainedStep}
 use Rattle.link.specs.History.{byte, tick, drained, request}
-use Rattle.link.specs.Refusals.{About, AboutPlace, AboutNone, PlaceAnswered, AllElse, ReleaseApart}
+use Rattle.link.specs.Refusals.{About, AboutPlace, AboutNone, PlaceAnswered, RequestsAre, AllElse, ReleaseApart}
 use Rattle.link.specs.declared.Link.{Link}
 use Rattle.link.proofs.Cases.{by-gate, by-byte, by-request}
 
@@ -35,6 +35,16 @@ place-answered u room o drained four =
 place-answered u room o (request r) four =
     by-request u r room o (λ l. AboutPlace (u .exchange) r (l .answer .outcome)) (λ n e. tt)
     (λ p e l. about (u .settings .terms) (u .exchange) r room four p e) (λ p e l. about (u .settings .terms) (u .exchange) r room four p e) (λ n. tt)
+
+-- ---- the requests by name
+
+pub requests-are : RequestsAre
+requests-are = record {
+  opens = λ u q d room o. refl;
+  replies = λ u p f d room o. refl;
+  frees-own = λ u p room o. refl;
+  frees-incoming = λ u p room o. refl;
+}
 
 -- ---- a release
 

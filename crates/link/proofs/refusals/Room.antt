@@ -1,5 +1,5 @@
 -- What a call that is not refused leaves of the room (`specs/Refusals.antt`). Assumes nothing.
-use Prim.Native.Nat.{ℕ}
+use Prim.Native.Nat.{ℕ, _<_}
 use mathlib.Core.Path.{_≡_, refl, sym, ap, subst, _∙_}
 use mathlib.Core.Bool.{Bool, true, false, false≢true}
 use mathlib.Core.List.{List}
@@ -21,6 +21,7 @@ use Rattle.line.specs.Codes.{faultNote}
 use Rattle.line.proofs.Alone.{ticks-tell}
 use Rattle.line.specs.declared.phase.Fault.{Fault}
 use Rattle.line.specs.declared.phase.Fault.the-variants.{Length, Sum}
+use Rattle.line.specs.Line.{Heard}
 use Rattle.line.specs.declared.step.Told.{Told}
 use Rattle.line.specs.declared.step.Told.the-variants as told
 use Rattle.line.specs.declared.step.Remark.{Remark}
@@ -52,11 +53,12 @@ use Rattle.exchange.specs.declared.Exchange.{Exchange}
 use Rattle.exchange.specs.declared.Asked.the-variants as asked
 use Rattle.link.specs.Answer.{outcomeNumber, noteNumber, noteBy}
 use Rattle.link.specs.Run.{Left, hasNext, Telling, telling, hears, hearing, byteStepped, byteStep, tickStep}
-use Rattle.link.specs.History.{Call, byte, tick, drained, request}
+use Rattle.link.specs.History.{Call, byte, tick, drained, request, stepIn}
 use Rattle.link.specs.Refusals.{AreaOf, of-reply, of-message, of-alike, of-free, headerHeard, BlockKept, FillsRoom}
 use Rattle.link.specs.declared.Midway.{Midway}
 use Rattle.link.specs.declared.Link.{Link}
 use Rattle.link.proofs.Cases.{by-byte, by-sent, by-answer, unlent-room}
+use Rattle.link.proofs.Steps.{at-byte}
 use Rattle.link.proofs.refusals.Rows.{behind}
 
 -- ---- a block that is judged
@@ -194,38 +196,36 @@ module _ (u : Link) (room o : List ℕ) where
   abbrev Spared : Left → Type 0
   Spared l = noteNumber (l .answer .note) ≢ 21 → l .room ≡ room
 
-  abbrev Filled : ℕ → Left → Type 0
-  Filled b l = noteNumber (l .answer .note) ≡ 21 → UpKept (byteStep u b .step .told) (u .exchange) (byteStep u b .received) room (l .room)
+  abbrev Filled : Heard → Left → Type 0
+  Filled h l = noteNumber (l .answer .note) ≡ 21 → UpKept (h .step .told) (u .exchange) (h .received) room (l .room)
 
-  byte-room : (b : ℕ) → Spared (byteStepped u (byteStep u b) room o)
-  byte-room b =
-      let h = byteStep u b in
+  byte-room : (h : Heard) → Spared (byteStepped u h room o)
+  byte-room h =
       let w = told-room (h .step .told) (h .step .remark) (hears u h) room in
       by-byte (λ p l. Spared l) u h room o (λ e. w) (λ c e. w) (λ e n. refl)
 
-  byte-kept : (b : ℕ) → Filled b (byteStepped u (byteStep u b) room o)
-  byte-kept b =
-      let h = byteStep u b in
+  byte-kept : (h : Heard) → Filled h (byteStepped u h room o)
+  byte-kept h =
       let w = told-kept (h .step .told) (h .step .remark) (hears u h) room in
-      by-byte (λ p l. Filled b l) u h room o (λ e. w) (λ c e. w) (λ e n. absurd (omega arith))
+      by-byte (λ p l. Filled h l) u h room o (λ e. w) (λ c e. w) (λ e n. absurd (omega arith))
 
-  byte-size : (b : ℕ) → length (byteStepped u (byteStep u b) room o .room) ≡ length room
-  byte-size b =
-      let l = byteStepped u (byteStep u b) room o in
+  byte-size : (h : Heard) → length (byteStepped u h room o .room) ≡ length room
+  byte-size h =
+      let l = byteStepped u h room o in
       either (eqb (noteNumber (l .answer .note)) 21) (λ t. length (l .room) ≡ length room)
       (λ e.
-      let w = byte-kept b (eqb-true _ _ e) .kept in
+      let w = byte-kept h (eqb-true _ _ e) .kept in
       ap length (w .kept) ∙ keeps-only room (w .area) _ _ .size)
-      (λ e. ap length (byte-room b (eqb-false _ _ e)))
+      (λ e. ap length (byte-room h (eqb-false _ _ e)))
 
-  block-kept : (b : ℕ) → noteNumber (byteStepped u (byteStep u b) room o .answer .note) ≡ 21 → Fours (u .exchange) → BlockKept u b room (byteStepped u (byteStep u b) room o .room)
-  block-kept b n four =
-      let w = byte-kept b n in
+  block-kept : (h : Heard) → noteNumber (byteStepped u h room o .answer .note) ≡ 21 → Fours (u .exchange) → BlockKept u h room (byteStepped u h room o .room)
+  block-kept h n four =
+      let w = byte-kept h n in
       record {
         size = w .size;
         up = w .up;
         area = w .kept .area;
-        of = area-of (u .exchange) (headerHeard u b) four (w .kept .there);
+        of = area-of (u .exchange) (headerHeard h) four (w .kept .there);
         kept = w .kept .kept;
       }
 
@@ -237,15 +237,20 @@ module _ (u : Link) (room o : List ℕ) where
       (λ n e. absurd (ticks-tell (u .settings .limits) (u .line) .not-up n e))
 
   pub size-behind : (k : Call) → length (behind u room o k .room) ≡ length room
-  size-behind (byte b fits) = byte-size b
+  size-behind (byte b fits) = byte-size (byteStep u b)
   size-behind tick = ap length tick-room
   size-behind drained = refl
   size-behind (request r) =
       by-answer u r room o (λ l. length (l .room) ≡ length room) (λ n e. refl)
       (λ p e l. request-spares (u .settings .terms) (u .exchange) r room) (λ p e l. refl) (lends r) refl
 
+  abbrev Fills : (b : ℕ) → b < 256 → Left → Type 0
+  Fills b fits l = outcomeNumber (l .answer .outcome) ≡ 0 → FillsRoom u room (byte b fits) (l .answer) (l .room)
+
   pub fills-behind : (k : Call) → outcomeNumber (behind u room o k .answer .outcome) ≡ 0 → FillsRoom u room k (behind u room o k .answer) (behind u room o k .room)
-  fills-behind (byte b fits) = λ e. (byte-room b, block-kept b)
+  fills-behind (byte b fits) =
+      let h = stepIn u (byte b fits) in
+      at-byte (λ s. Fills b fits (byteStepped u s room o)) u b fits (λ e. (byte-room h, block-kept h))
   fills-behind tick = λ e. tick-room
   fills-behind drained = λ e. refl
   fills-behind (request r) =

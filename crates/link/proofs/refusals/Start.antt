@@ -134,6 +134,6 @@ start-exactly = record {
       (λ f. (λ e. subst (StartRuled s) e (start-0 f), only-0 s f))
       (λ m. (λ e. subst (StartRuled s) e (start-4 m), only-4 s m));
   accepted = λ s f.
-      by-start s (Started s) (λ g. record { link = refl; done = refl; count = refl; note = refl; flags = refl }) (λ m. absurd (m f));
+      by-start s (Started s) (λ g. record { link = refl; settings = refl; line = refl; exchange = refl; block = refl; done = refl; count = refl; note = refl; flags = refl }) (λ m. absurd (m f));
   refused = λ s m. by-start s NotStarted (λ f. absurd (m f)) (λ n. not-started);
 }

@@ -28,6 +28,7 @@ use Rattle.exchange.proofs.Judging.{message-says}
 use Rattle.exchange.proofs.Holding.{IncomingHolds}
 use Rattle.exchange.proofs.Areas.{always}
 use Rattle.exchange.proofs.Releases.{message-stays}
+use Rattle.exchange.proofs.Places.{no-place-exactly}
 use Rattle.link.specs.Reading.{incomingOf, messageBy}
 use Rattle.link.specs.History.{Track, exchangeTrack, termsIn, next, track}
 use Rattle.link.specs.Verdicts.{thereBy, completeBy, isThere, isComplete, CompleteExactly, TakesExactly, headerBy, lengthBy, MessageShown, MessageStays, MessageKept, CompleteStays, MessageRead}
@@ -42,7 +43,7 @@ abbrev pub readAs : Incoming → IncomingReading
 readAs i = cond (incomingIsFree i) arrival.NoPlace (arrival.Place (primaryOf i) (incomingLength i) (not (incomingIsOpen i)) (replyStage i))
 
 -- a place shows something
-abbrev showing : incoming.Shows → Bool
+abbrev pub showing : incoming.Shows → Bool
 showing incoming.nothing = false
 showing incoming.arriving = true
 showing incoming.complete = true
@@ -50,7 +51,7 @@ showing incoming.replying = true
 showing (incoming.replied e) = true
 
 -- of a place, what it shows: and its header and length, if there is a message
-record Reads (r : IncomingReading) (i : Incoming) : Type 0 where
+pub record Reads (r : IncomingReading) (i : Incoming) : Type 0 where
   pub there : thereBy r ≡ showing (incoming.shows i)
   pub complete : completeBy r ≡ place.isComplete (incoming.shows i)
   pub header : thereBy r ≡ true → headerBy r ≡ primaryOf i
@@ -69,7 +70,7 @@ reads-at h (stage.Replied n z) = record { there = refl; complete = refl; header 
 abbrev pub here : Track → ℕ → Incoming
 here t p = incomingPlace (t .link .exchange) p
 
-reads : (t : Track) (p : ℕ) → Reads (incomingOf (t .link) p) (here t p)
+pub reads : (t : Track) (p : ℕ) → Reads (incomingOf (t .link) p) (here t p)
 unfolding incomingReading
 reads t p = reads-at (here t p .header) (here t p .stage)
 
@@ -110,7 +111,7 @@ module _ (t : Track) (p : ℕ) where
     λ e. (reads t p .there ∙ ap showing e, reads t p .complete ∙ ap place.isComplete e),
   )
 
-  there-too : isComplete t p ≡ true → isThere t p ≡ true
+  pub there-too : isComplete t p ≡ true → isThere t p ≡ true
   there-too e = reads t p .there ∙ complete-there shown (sym (reads t p .complete) ∙ e)
 
 pub complete-exactly : CompleteExactly
@@ -120,6 +121,7 @@ complete-exactly t w p k =
       whole = both-ways (λ e. sym (reads t p .complete) ∙ e, λ e. reads t p .complete ∙ e) (x .whole);
       open-yet = both-ways (open-read t p) (x .open-yet);
       none = both-ways (none-read t p) (x .none);
+      no-place = both-ways (no-place-exactly (t .link .exchange) p .incoming) (x .none);
     }
 
 pub takes-exactly : TakesExactly
@@ -152,7 +154,7 @@ unfolding incomingReading
 message-read t w p k e =
     let i = here t p in
     let g = always (termsIn t) (exchangeTrack t (t .room)) (exchange-back t w) in
-    let y = message-reads (t .room) p (t .joined .messages p) (g .whole) k (i .header) (i .stage) e (g .incoming p k) in
+    let y = message-reads (t .room) p (t .joined .messages p) (g .whole) k (i .header) (i .stage) e (g .incoming .each p k) in
     record { bytes = y .0; size = sym (y .1) ∙ sym (reads t p .size e) ∙ message-shown t (w .reached) p k e .size }
 
 -- ---- it stays

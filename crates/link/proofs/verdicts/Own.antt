@@ -1,12 +1,11 @@
 -- Each own place's theorems, over the unit's calls (`specs/Verdicts.antt`). Assumes nothing.
 use Prim.Native.Nat.{ℕ, _<_}
 use mathlib.Core.Path.{_≡_, refl, sym, ap, _∙_, subst}
-use mathlib.Core.Bool.{true, cond, false≢true, true≢false}
+use mathlib.Core.Bool.{true, cond, false≢true}
 use mathlib.Core.List.{List}
 use mathlib.Core.Logic.{_↔_, inl, inr, ⊎-elim}
 use lib.ListN.{length}
 use Rattle.header.specs.declared.header.Header.{Header}
-use Rattle.settings.specs.declared.terms.Terms.{Terms}
 use Rattle.room.specs.declared.Message.the-variants as message
 use Rattle.place.specs.Own.{primaryOf, standingAt, ownStanding, freeBy, givenBy, ownHasVerdict, keptAt, ownKept}
 use Rattle.place.specs.OwnHistory as own
@@ -14,7 +13,7 @@ use Rattle.place.specs.OwnTheorems as place
 use Rattle.place.proofs.Verdicts as proved
 use Rattle.place.proofs.Falling.{verdict-falls as falls}
 use Rattle.place.specs.declared.Verdict.{Verdict}
-use Rattle.place.specs.declared.Verdict.the-variants.{Sent, Answered, Declined, Other, Broken, NoReply, SendFailed}
+use Rattle.place.specs.declared.Verdict.the-variants.{Answered}
 use Rattle.place.specs.declared.Standing.{Standing}
 use Rattle.place.specs.declared.Standing.the-variants.{Free, Open, Given}
 use Rattle.place.specs.declared.Reply.{Reply}
@@ -24,7 +23,6 @@ use Rattle.place.specs.declared.OwnStage.the-variants as stage
 use Rattle.exchange.specs.Exchange.{ownPlace}
 use Rattle.exchange.specs.Reading.{ownReading}
 use Rattle.exchange.specs.Request.{free-own}
-use Rattle.exchange.specs.Theorems.{byVerdict}
 use Rattle.exchange.specs.Releases as side
 use Rattle.exchange.specs.declared.Exchange.{Exchange}
 use Rattle.exchange.specs.declared.OwnReading.the-variants as reading
@@ -32,11 +30,13 @@ use Rattle.exchange.proofs.Accepting.{accepted-releases}
 use Rattle.exchange.proofs.Holding.{OwnHolds}
 use Rattle.exchange.proofs.Areas.{always}
 use Rattle.exchange.proofs.Numbering.{read}
+use Rattle.exchange.proofs.Places.{no-place-exactly as places-read}
 use Rattle.exchange.proofs.Releases.{verdict-stays}
+use Rattle.exchange.proofs.Runs.{four-places}
 use Rattle.link.specs.Reading.{ownOf, replyBy}
 use Rattle.link.specs.History.{Track, exchangeTrack, termsIn, next, track}
-use Rattle.link.specs.Verdicts.{standingBy, standing, StandingRead, VerdictExactly, AnsweredExactly, FreeExactly, requestIn, replyIn, RequestRead, ArrivingRead, ReplyRead, OwnStays, KeptUntilReleased, OneVerdict, Decided, VerdictFalls}
-use Rattle.link.proofs.inside.Places.{lent, places-inside}
+use Rattle.link.specs.Verdicts.{standingBy, standing, StandingRead, VerdictExactly, AnsweredExactly, FreeExactly, NoPlaceExactly, NoneAbove, requestIn, replyIn, RequestRead, ArrivingRead, WholeRead, NothingRead, ReplyRead, OwnStays, KeptUntilReleased, OneVerdict, Decided, VerdictFalls}
+use Rattle.link.proofs.inside.Places.{lent, sound-inside, places-inside}
 use Rattle.link.proofs.verdicts.Back.{exchange-back, fills-read}
 use Rattle.link.proofs.verdicts.Released.{KeptBut, released-or-spared, stays-once, stays-until}
 use Rattle.link.proofs.verdicts.Taken.{request-taken, request-leads}
@@ -56,19 +56,27 @@ standing-read t p = let o = ownPlace (t .link .exchange) p in by-standing (ownSt
 read-so : (t : Track) (p : ℕ) (P : Standing → Type 0) → P (ownStanding (ownPlace (t .link .exchange) p)) → P (standing t p)
 read-so t p P w = subst P (sym (standing-read t p)) w
 
--- a place in use is read with its request and its reply
+-- a place in use is read with its request
 in-use : (z : Standing) (h : Header) (r : Reply) → (z ≡ Free → ⊥) → cond (freeBy z) reading.NoPlace (reading.Place h z r) ≡ reading.Place h z r
 in-use Free h r used = absurd (used refl)
 in-use Open h r used = refl
 in-use (Given v) h r used = refl
 
+-- any place is read with its reply
+by-stage : (h : List ℕ) (z : OwnStage) → replyIn (read (record { header = h; stage = z })) ≡ keptAt z
+by-stage h stage.Free = refl
+by-stage h stage.Sending = refl
+by-stage h (stage.Awaiting timer) = refl
+by-stage h (stage.Replying a) = refl
+by-stage h (stage.Done v r) = refl
+
 module _ (t : Track) (p : ℕ) where
   abbrev here : Own
   here = ownPlace (t .link .exchange) p
 
-  reply-in : (ownStanding here ≡ Free → ⊥) → replyIn (ownOf (t .link) p) ≡ ownKept here
+  reply-in : replyIn (ownOf (t .link) p) ≡ ownKept here
   unfolding ownReading
-  reply-in used = ap replyIn (in-use (ownStanding here) (primaryOf here) (ownKept here) used)
+  reply-in = by-stage (here .header) (here .stage)
 
   request-in : (ownStanding here ≡ Free → ⊥) → requestIn (ownOf (t .link) p) ≡ primaryOf here
   unfolding ownReading
@@ -81,9 +89,21 @@ request-read t w p k used =
 
 pub arriving-read : ArrivingRead
 arriving-read t w p k a e some =
-    let inner = sym (standing-read t p) ∙ e in
-    subst (place.ReplyAsKept (t .own p)) (sym (reply-in t p (λ f. absurd (true≢false (ap freeBy (sym f ∙ inner))))))
-    (proved.arriving-shown (termsIn t) _ (places-inside t w .own p k) a inner some)
+    subst (place.ReplyAsKept (t .own p)) (sym (reply-in t p))
+    (proved.arriving-shown (termsIn t) _ (places-inside t w .own p k) a (sym (standing-read t p) ∙ e) some)
+
+pub whole-read : WholeRead
+whole-read t w p k v b e =
+    let c = termsIn t in
+    let inside = places-inside t w .own p k in
+    subst (place.ReplyAsKept (t .own p)) (sym (reply-in t p))
+    (proved.reply-shown c _ inside
+    (proved.earned-whole c (t .own p) v (proved.verdict-exactly c _ inside v .0 (sym (standing-read t p) ∙ e)) b))
+
+pub nothing-read : NothingRead
+nothing-read t w p k n =
+    subst place.AllZeros (sym (reply-in t p))
+    (proved.nothing-shown (termsIn t) _ (places-inside t w .own p k) (subst (place.NoneToShow (t .own p)) (standing-read t p) n))
 
 -- ---- each verdict exactly when
 
@@ -93,6 +113,15 @@ verdict-exactly t w p k v =
 
 pub free-exactly : FreeExactly
 free-exactly t w p k = read-so t p (λ z. (z ≡ Free) ↔ (t .own p .request ≡ own.none)) (proved.free-exactly (termsIn t) _ (places-inside t w .own p k))
+
+pub no-place-exactly : NoPlaceExactly
+no-place-exactly t w p k =
+    let read-so = places-read (t .link .exchange) p .own in
+    let free = proved.free-exactly (termsIn t) _ (places-inside t w .own p k) in
+    (λ e. free .0 (read-so .0 e), λ e. read-so .1 (free .1 e))
+
+pub none-above : NoneAbove
+none-above t w p past = places-read (t .link .exchange) p .above (four-places (t .link .exchange) (sound-inside t w)) past
 
 pub answered-exactly : AnsweredExactly
 answered-exactly t w p k =
@@ -107,18 +136,8 @@ answered-exactly t w p k =
 
 -- ---- the bytes of a reply
 
--- 2, 3 and 4 are verdicts on a whole reply
-complete-by : (c : Terms) (s : own.Seen) (v : Verdict) → byVerdict v ≡ true → place.Earned c s v → place.Complete s
-complete-by c s Sent b e = absurd (false≢true b)
-complete-by c s Answered b e = e .0
-complete-by c s Declined b e = e .0
-complete-by c s Other b e = e .0
-complete-by c s Broken b e = absurd (false≢true b)
-complete-by c s NoReply b e = absurd (false≢true b)
-complete-by c s SendFailed b e = absurd (false≢true b)
-
 -- no other stage shows a verdict
-module _ (room : List ℕ) (p : ℕ) (bs : List ℕ) (whole : length room ≡ 36864) (within : p < 4) (v : Verdict) (b : byVerdict v ≡ true) where
+module _ (room : List ℕ) (p : ℕ) (bs : List ℕ) (whole : length room ≡ 36864) (within : p < 4) (v : Verdict) (b : place.onReply v ≡ true) where
   reply-reads : (h : List ℕ) (z : OwnStage) → standingAt z ≡ Given v → OwnHolds room p z bs
       → (replyBy (read (record { header = h; stage = z })) room p ≡ bs) × (keptAt z .length ≡ length bs)
   reply-reads h stage.Free e g = absurd (false≢true (ap givenBy e))
@@ -127,7 +146,7 @@ module _ (room : List ℕ) (p : ℕ) (bs : List ℕ) (whole : length room ≡ 36
   reply-reads h (stage.Replying a) e g = absurd (false≢true (ap givenBy e))
   reply-reads h (stage.Done u r) e g =
       let z : u ≡ v = cc in
-      fills-read room (message.Reply p) (r .length) bs whole within (g (ap byVerdict z ∙ b))
+      fills-read room (message.Reply p) (r .length) bs whole within (g (ap place.onReply z ∙ b))
 
 pub reply-read : ReplyRead
 unfolding ownReading
@@ -135,15 +154,10 @@ reply-read t w p k v b e =
     let c = termsIn t in
     let o = ownPlace (t .link .exchange) p in
     let g = always c (exchangeTrack t (t .room)) (exchange-back t w) in
-    let inside = places-inside t (w .reached) .own p k in
     let given = sym (standing-read t p) ∙ e in
-    let y = reply-reads (t .room) p (t .joined .replies p) (g .whole) k v b (o .header) (o .stage) given (g .own p k) in
-    let shown = proved.reply-shown c _ inside (complete-by c (t .own p) v b (proved.verdict-exactly c _ inside v .0 given)) in
-    record {
-      as-kept = subst (place.ReplyAsKept (t .own p)) (sym (reply-in t p (λ f. absurd (false≢true (ap givenBy (sym f ∙ given)))))) shown;
-      bytes = y .0;
-      size = sym (y .1) ∙ shown .length;
-    }
+    let y = reply-reads (t .room) p (t .joined .replies p) (g .whole) k v b (o .header) (o .stage) given (g .own .each p k) in
+    let shown = whole-read t (w .reached) p k v b e in
+    record { as-kept = shown; bytes = y .0; size = sym (y .1) ∙ ap (λ (r : Reply). r .length) (sym (reply-in t p)) ∙ shown .length }
 
 -- ---- one verdict
 

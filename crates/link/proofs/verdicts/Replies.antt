@@ -1,24 +1,32 @@
--- Our reply in an incoming place is on its way exactly while it is being sent, and keeps its end (`specs/Verdicts.antt`). Assumes nothing.
+-- Our reply in an incoming place is owed or on its way exactly when it should be, and keeps its end (`specs/Verdicts.antt`). Assumes nothing.
 use Prim.Native.Nat.{ℕ, _<_}
 use mathlib.Core.Path.{_≡_, refl, sym, ap, _∙_, subst}
-use mathlib.Core.Bool.{true, false≢true}
-use Rattle.place.specs.Incoming.{incomingIsReplied}
+use mathlib.Core.Bool.{Bool, true, false, false≢true, true≢false}
+use mathlib.Core.Logic.{_↔_, _⊎_, inl, inr, ⊎-elim}
+use Rattle.wire.proofs.Choice.{either}
+use Rattle.header.specs.declared.header.Header.{Header}
+use Rattle.place.specs.Message.{firstOf}
+use Rattle.place.specs.Incoming.{primaryOf, incomingIsReplied}
+use Rattle.place.specs.IncomingHistory.{shows}
+use Rattle.place.specs.IncomingTheorems as place
 use Rattle.exchange.specs.Exchange.{incomingPlace}
 use Rattle.exchange.specs.Reading.{incomingReading, stageBy, hasEnded}
 use Rattle.exchange.specs.History as exchange
 use Rattle.exchange.specs.Releases as side
-use Rattle.exchange.specs.Underway.{way, wayOf, isOnway, ReplyAt}
+use Rattle.exchange.specs.Underway.{Way, none, onway, sent, failed, way, wayOf, isOnway, ReplyAt}
 use Rattle.exchange.specs.Watching.{replyFrom}
 use Rattle.exchange.specs.declared.Exchange.{Exchange}
 use Rattle.exchange.specs.declared.ReplyStage.{ReplyStage}
 use Rattle.exchange.specs.declared.ReplyStage.the-variants.{NotOwed, Owed, OnItsWay, Sent, Failed}
 use Rattle.exchange.proofs.Releases.{end-stays}
 use Rattle.exchange.proofs.Replies.{reply-read, reply-watched}
+use Rattle.exchange.proofs.Places.{owed-exactly as owed-at}
 use Rattle.link.specs.Reading.{incomingOf}
 use Rattle.link.specs.History.{Track, termsIn, track}
-use Rattle.link.specs.Verdicts.{AtEach, replyStands, OnItsWayExactly, EndStays, OneEnd}
+use Rattle.link.specs.Verdicts.{AtEach, isComplete, replyStands, OnItsWayExactly, Unanswered, Owes, OwedExactly, EndStays, OneEnd}
+use Rattle.link.specs.Inside.{Reached}
 use Rattle.link.proofs.inside.Places.{exchange-inside}
-use Rattle.link.proofs.verdicts.Messages.{readAs, here}
+use Rattle.link.proofs.verdicts.Messages.{readAs, here, reads, there-too, message-shown}
 use Rattle.link.proofs.verdicts.Released.{KeptBut, stays-until}
 
 -- ---- on its way exactly while it is being sent
@@ -40,6 +48,75 @@ pub on-its-way-exactly : OnItsWayExactly
 on-its-way-exactly t w p k =
     let same = ap isOnway (reply-read (t .link .exchange) p .stands) ∙ reply-inside t w p k .1 in
     (λ e. sym same ∙ ap (λ (r : ReplyStage). isOnway (wayOf r)) e, λ e. is-onway (replyStands t p) (same ∙ e))
+
+-- ---- owed exactly where the message wants one
+
+none-stands : (r : ReplyStage) → isOnway (wayOf r) ≡ false → hasEnded r ≡ false → wayOf r ≡ none
+none-stands NotOwed o e = refl
+none-stands Owed o e = refl
+none-stands OnItsWay o e = absurd (true≢false o)
+none-stands Sent o e = absurd (true≢false e)
+none-stands Failed o e = absurd (true≢false e)
+
+-- what has an end is at it
+abbrev atEnd : Way → Bool
+atEnd none = false
+atEnd onway = false
+atEnd sent = true
+atEnd failed = true
+
+ends-so : (r : ReplyStage) → hasEnded r ≡ atEnd (wayOf r)
+ends-so NotOwed = refl
+ends-so Owed = refl
+ends-so OnItsWay = refl
+ends-so Sent = refl
+ends-so Failed = refl
+
+module _ (t : Track) (w : Reached t) (p : ℕ) (k : p < 4) where
+  stands : wayOf (replyStands t p) ≡ way (here t p)
+  stands = reply-read (t .link .exchange) p .stands
+
+  -- none was accepted
+  unanswered : (way (here t p) ≡ none) ↔ Unanswered t p
+  unanswered =
+      let onway-so = reply-inside t w p k .1 in (
+        λ e. record { not-sent = sym onway-so ∙ ap isOnway e; no-end = ends-so (replyStands t p) ∙ ap atEnd (stands ∙ e) },
+        λ u. sym stands ∙ none-stands (replyStands t p) (ap isOnway stands ∙ onway-so ∙ u .not-sent) (u .no-end),
+      )
+
+  -- a complete message asked for a reply by its first block
+  asked : isComplete t p ≡ true → primaryOf (here t p) .w ≡ firstOf (t .incoming p .kept) .w
+  asked e =
+      let there = there-too t p e in
+      ap (λ (h : Header). h .w) (sym (reads t p .header there) ∙ message-shown t w p k there .header)
+
+  owes : Owes t p
+  owes =
+      let x = owed-at (t .link .exchange) p in
+      let done = reads t p .complete in
+      record {
+        owed = (
+          λ e. let y = x .owed .0 e in let c = done ∙ y .0 in (c, sym (asked c) ∙ y .1, unanswered .0 (y .2)),
+          λ y. x .owed .1 (sym done ∙ y .0, asked (y .0) ∙ y .1, unanswered .1 (y .2)),
+        );
+        not-owed = (
+          λ e.
+              either (isComplete t p) (λ z. (z ≡ false) ⊎ ((firstOf (t .incoming p .kept) .w ≡ false) × Unanswered t p))
+              (λ c. ⊎-elim (λ f. absurd (true≢false (sym c ∙ done ∙ f))) (λ y. inr (sym (asked c) ∙ y .0, unanswered .0 (y .1))) (x .not-owed .0 e))
+              (λ c. inl refl),
+          λ s.
+              x .not-owed .1
+              (⊎-elim (λ f. inl (sym done ∙ f))
+              (λ y.
+              either (isComplete t p) (λ z. (place.isComplete (shows (here t p)) ≡ false) ⊎ ((primaryOf (here t p) .w ≡ false) × (way (here t p) ≡ none)))
+              (λ c. inr (asked c ∙ y .0, unanswered .1 (y .1)))
+              (λ c. inl (sym done ∙ c)))
+              s),
+        );
+      }
+
+pub owed-exactly : OwedExactly
+owed-exactly t w p k = owes t w p k
 
 -- ---- and it keeps its end
 

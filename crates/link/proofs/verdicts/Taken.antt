@@ -6,9 +6,10 @@ use mathlib.Core.List.{List}
 use Rattle.exchange.specs.Request.{Request}
 use Rattle.exchange.specs.History as exchange
 use Rattle.exchange.specs.declared.Asked.the-variants as asked
+use Rattle.link.specs.Answer.{accepted}
 use Rattle.link.specs.Run.{Left}
 use Rattle.link.specs.History.{Call, request, called, Made, onExchange, Track, exchangeTrack, termsIn, answered, next}
-use Rattle.link.specs.Verdicts.{accepts, Tells}
+use Rattle.link.specs.Verdicts.{Tells}
 use Rattle.link.specs.declared.Outcome.the-variants as outcome
 use Rattle.link.proofs.Cases.{by-request, answering}
 use Rattle.link.proofs.inside.Places.{lent, goes}
@@ -28,15 +29,15 @@ module _ (t : Track) (m : Made) (r : Request) (a : Tells t m (exchange.request r
   abbrev Answers : Left → Type 0
   Answers l = (p : ℕ) × (answering (t .link) r (lent t m) .answer .asked ≡ asked.Taken p) × (l .answer .outcome ≡ outcome.Taken p)
 
-  answers : accepts (left (request r) .answer .outcome) ≡ true → Answers (left (request r))
+  answers : accepted (left (request r) .answer .outcome) ≡ true → Answers (left (request r))
   answers =
-      by-request (t .link) r (lent t m) (m .out) (λ l. accepts (l .answer .outcome) ≡ true → Answers l)
+      by-request (t .link) r (lent t m) (m .out) (λ l. accepted (l .answer .outcome) ≡ true → Answers l)
       (λ n e z. absurd (false≢true z)) (λ p e l z. (p, e, refl)) (λ p e l z. (p, e, refl)) (λ n z. absurd (false≢true z))
 
   pub request-taken : TakenAt t m r
   request-taken =
       let w = told-exactly t m .asks r .0 a in
-      let y = answers (subst (λ (k : Call). accepts (left k .answer .outcome) ≡ true) (w .1) (w .0)) in
+      let y = answers (subst (λ (k : Call). accepted (left k .answer .outcome) ≡ true) (w .1) (w .0)) in
       record { place = y .0; asked = y .1; outcome = ap (λ (k : Call). left k .answer .outcome) (w .1) ∙ y .2 }
 
   -- nothing else is told

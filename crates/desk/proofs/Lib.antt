@@ -1,0 +1,2 @@
+-- `Determined`: what each public contract determines.
+pub mod Determined
