@@ -2,7 +2,8 @@
 ghost use mathlib.Core.Path.{_≡_};
 ghost use Prim.Native.Nat.{_≤_};
 ghost use lib.ListN.{length, take};
-ghost use Rattle.talk.specs.Answer.{commandDone, done, earlyShown, lineDone, nothingStarted, shownRan, standingNumber, startShown, unreadShown, verdictBy};
+ghost use Rattle.place.specs.Verdict.{standingNumber};
+ghost use Rattle.talk.specs.Answer.{commandDone, done, earlyShown, lineDone, nothingStarted, shownRan, startShown, unreadShown, verdictBy};
 ghost use Rattle.link.specs.Reading.{ownOf};
 use crate::run;
 use exchange::OwnReading;

@@ -5,15 +5,15 @@ use mathlib.Core.Bool.{true, cond}
 use mathlib.Core.List.{List}
 use mathlib.Core.Logic.{_↔_}
 use native.Mathlib.Omega.{arith}
-use lib.ListN.{length, getD}
+use lib.ListN.{length, take, drop, getD}
 use borrow.Author.Tests.{leb-true, le-leb, eqb-true, eq-eqb}
 use Rattle.wire.specs.Bytes.{part, pairOf}
 use Rattle.wire.proofs.Choice.{judged, three}
 use Rattle.header.specs.Header.{headerOf}
 use Rattle.header.specs.declared.header.Header.{Header}
 use Rattle.wire.specs.Sum.{checksumOf}
-use Rattle.block.specs.Block.{GoodLength, lengthGood, readNumber, sumsAgree, readSized, readOf}
-use Rattle.block.specs.Theorems.{GoodBlock, ReadRefuses}
+use Rattle.block.specs.Block.{GoodLength, lengthGood, readNumber, sumsAgree, readSized, readOf, dataIn}
+use Rattle.block.specs.Theorems.{LengthExactly, GoodBlock, ReadRefuses, DataRead}
 use Rattle.block.specs.declared.Refusal.the-variants.{BlockLength, ChecksumDiffers}
 use Rattle.block.specs.declared.Read.{Read}
 use Rattle.block.specs.declared.Read.the-variants.{Block, Refused}
@@ -24,6 +24,9 @@ good-length n given = (
   λ e. let w = three _ _ _ .0 e in record { least = leb-true _ _ (w .0); most = leb-true _ _ (w .1); counts = eqb-true _ _ (w .2) },
   λ g. simp (le-leb _ _ (g .least), le-leb _ _ (g .most), eq-eqb _ _ (g .counts)),
 )
+
+pub length-exactly : LengthExactly
+length-exactly n given = (λ g. (g .least, g .most, g .counts), λ w. record { least = w .0; most = w .1; counts = w .2 })
 
 -- the sums of a block of length n agree
 abbrev Agree : List ℕ → ℕ → Type 0
@@ -90,3 +93,12 @@ read-refuses line = record {
   where
     n : ℕ
     n = getD line 0 0
+
+pub data-read : DataRead
+unfolding part
+data-read line = record {
+  good = λ h n e.
+      let size : n + 1 - 11 ≡ n - 10 = omega arith in
+      ap (λ (r : Read). dataIn r line) e ∙ ap (λ (k : ℕ). take k (drop 11 line)) size;
+  refused = λ r e. ap (λ (x : Read). dataIn x line) e;
+}

@@ -2,12 +2,12 @@
 use Prim.Native.Nat.{ℕ, _+_, _-_, _/_, _%_, _^_, _≤_, _<_}
 use mathlib.Core.Path.{_≡_}
 use mathlib.Core.Bool.{cond}
-use mathlib.Core.List.{List}
+use mathlib.Core.List.{List, [], _∷_, _++_}
 use mathlib.Core.Logic.{_↔_}
 use lib.Dec.{eqb}
 use lib.ListN.{length, take, drop, getD, set}
-use Rattle.wire.specs.Bytes.{Bytes, part, pairOf}
-use Rattle.header.specs.Header.{InRange, headerOf}
+use Rattle.wire.specs.Bytes.{Bytes, part, pairOf, halvesOf}
+use Rattle.header.specs.Header.{InRange, headerBytes, headerOf}
 use Rattle.header.specs.declared.header.Header.{Header}
 use Rattle.wire.specs.Sum.{checksumOf}
 use Rattle.block.specs.Block.{withSum, blockOf, GoodLength, writtenNumber, writeOf, readNumber, readOf, dataIn}
@@ -15,6 +15,15 @@ use Rattle.block.specs.declared.Refusal.{Refusal}
 use Rattle.block.specs.declared.Refusal.the-variants.{ChecksumDiffers}
 use Rattle.block.specs.declared.Read.the-variants.{Block, Refused}
 use Rattle.block.specs.declared.Written.the-variants.{Bytes as Taken, Refused as NotWritten}
+
+-- "A block on the line: length N (10 to 254), N bytes, then the 16-bit sum of those N bytes, high byte first.": the N bytes are the ten of
+-- the header and the data behind them
+abbrev pub BlockLaidOut : Type 0
+BlockLaidOut = (h : Header) (d : List ℕ) → blockOf h d ≡ (10 + length d) ∷ (headerBytes h ++ (d ++ halvesOf (checksumOf (headerBytes h ++ d))))
+
+-- 12: "block length outside 10 to 254, or not the bytes given": what the rows below have by a word, in plain numbers
+abbrev pub LengthExactly : Type 0
+LengthExactly = (n given : ℕ) → GoodLength n given ↔ ((10 ≤ n) × (n ≤ 254) × (n ≡ given))
 
 -- Writing: each number of 01's table exactly when its row says so and no earlier one does, 0 for a block that is taken, and
 -- 13 never ("reading only").
@@ -56,6 +65,14 @@ pub record ReadTable (line : List ℕ) : Type 0 where
 
 abbrev pub ReadRefuses : Type 0
 ReadRefuses = (line : List ℕ) → ReadTable line
+
+-- The data of a good block is what stands between its header and its sum, as it stands there; of a refused one none is handed out.
+pub record DataOf (line : List ℕ) : Type 0 where
+  pub good : (h : Header) (n : ℕ) → readOf line ≡ Block h n → dataIn (readOf line) line ≡ take (n - 10) (drop 11 line)
+  pub refused : (r : Refusal) → readOf line ≡ Refused r → dataIn (readOf line) line ≡ []
+
+abbrev pub DataRead : Type 0
+DataRead = (line : List ℕ) → DataOf line
 
 -- What was written reads as the same header and data, for every header in range and every output.
 abbrev pub ReadOfWritten : Type 0

@@ -32,10 +32,10 @@ use Rattle.exchange.specs.Exchange.{ownPlace, incomingPlace, putOwn, put
 use Rattle.exchange.specs.Tick.{tickOf}
 use Rattle.exchange.specs.Send.{endedOwn, endedReply, sentBy, failedBy}
 use Rattle.exchange.specs.Judge.{Judging, thrown, spoiltBy, replyBlock, messageBlock, beginsAt, judgeOf}
-use Rattle.exchange.specs.Request.{Requesting, refusedBy, refused, primaryHeader, claimedAt, replyAccepted, Request, reply, answerOf}
+use Rattle.exchange.specs.Request.{sendingBy, Requesting, refusedBy, refused, primaryHeader, claimedAt, replyAccepted, Request, reply, answerOf}
 use Rattle.exchange.specs.History.{Call, block, tick, acknowledged, failed, request, Joined, anew, ofNew, joins, ifKept, joinsAsked, Track, next, track, atStart}
 use Rattle.exchange.specs.Releases as side
-use Rattle.exchange.specs.Theorems.{Reached, StartsWith, hasReply, lengthSent, sends, JoinedInAreas}
+use Rattle.exchange.specs.Theorems.{Reached, StartsWith, hasReply, lengthSent, JoinedInAreas}
 use Rattle.exchange.proofs.Cases.{Thrown, stray, no-place, too-long, empty, Takes, by-judge, by-request}
 use Rattle.exchange.proofs.Filling.{Fills, spares-same, spares-kept, fills-first, fits-area}
 use Rattle.exchange.proofs.Holding.{OwnHolds, IncomingHolds, SendHolds, own-ticked, own-sent, own-failed, own-released, own-claimed, incoming-ticked, incoming-answered, incoming-ended, incoming-released}
@@ -229,7 +229,7 @@ message-begins room p (arrival.Complete n) bs h e = h .begins
 message-begins room p (arrival.Replying n) bs h e = h .begins
 message-begins room p (arrival.Replied n z) bs h e = h .begins
 
-send-begins : (room : List ℕ) (q : Sending) (bs : List ℕ) → SendHolds room q bs → sends q ≡ true → StartsWith room message.Send (lengthSent q) bs
+send-begins : (room : List ℕ) (q : Sending) (bs : List ℕ) → SendHolds room q bs → sendingBy q ≡ true → StartsWith room message.Send (lengthSent q) bs
 send-begins room sending.Nothing bs h e = absurd (false≢true e)
 send-begins room (sending.Primary p n) bs h e = h .begins
 send-begins room (sending.Reply p f n) bs h e = h .begins

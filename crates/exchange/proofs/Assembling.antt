@@ -1,235 +1,266 @@
 -- Assembly of a cut message is the message (`specs/Assembly.antt`). Assumes nothing.
-use Prim.Native.Nat.{ℕ, zero, suc, _-_, _%_, _≤_, _<_}
-use mathlib.Core.Path.{_≡_, refl, ap, subst, _∙_}
-use mathlib.Core.Bool.{Bool, true, false, cond}
-use mathlib.Core.List.{List, [], _∷_, _++_}
-use mathlib.Core.Logic.{inl}
+use Prim.Native.Nat.{ℕ, zero, suc, _+_, _%_, _≤_, _<_}
+use mathlib.Core.Path.{_≡_, refl, sym, ap, subst, _∙_}
+use mathlib.Core.Bool.{Bool, true, false, cond, false≢true}
+use mathlib.Core.List.{List}
+use mathlib.Core.Logic.{inl, inr, _≢_}
 use native.Mathlib.Omega.{arith}
 use lib.Dec.{eqb}
-use lib.ListN.{length, replicate}
-use borrow.Author.Tests.{eq-eqb, ne-eqb}
+use lib.ListN.{length}
+use borrow.Author.Tests.{eqb-true, eqb-false}
 use Rattle.wire.specs.Message.{messageLimit}
+use Rattle.wire.proofs.Choice.{either}
 use Rattle.header.specs.Header.{InRange, headerOf}
 use Rattle.header.specs.declared.header.Header.{Header}
 use Rattle.settings.specs.declared.terms.Terms.{Terms}
 use Rattle.cut.specs.Blocks.{blockCount, headerAt}
 use Rattle.cut.specs.Theorems.{joined}
-use Rattle.cut.proofs.Counts.{count-is-fewest}
-use Rattle.cut.proofs.Cutting.{cut-joined}
 use Rattle.room.specs.Room.{keptIn}
 use Rattle.room.specs.declared.Message.the-variants as message
 use Rattle.place.specs.Message.{Routed}
-use Rattle.place.specs.Fate.{beginsPrimary, fateOf}
-use Rattle.place.specs.Arriving.{continuesArriving}
+use Rattle.place.specs.OwnHistory as event
+use Rattle.place.specs.Incoming.{openAt as isOpen, incomingLength}
 use Rattle.place.specs.declared.Arriving.{Arriving}
-use Rattle.place.specs.Own.{freshOwn}
-use Rattle.place.specs.Incoming.{freshIncoming, begunBy, begins, incomingBegun, continuesHere, keptBy, goesOn, incomingOffered}
-use Rattle.place.specs.declared.Fate.{Fate}
-use Rattle.place.specs.declared.Fate.the-variants.{Last, More}
-use Rattle.place.specs.declared.IncomingStage.{IncomingStage}
-use Rattle.place.specs.declared.IncomingStage.the-variants.{Open, Complete}
+use Rattle.place.specs.declared.IncomingStage.the-variants.{Free, Open, Complete}
 use Rattle.place.specs.declared.Incoming.{Incoming}
-use Rattle.place.proofs.Judging.{primary-exactly, continues-exactly}
-use Rattle.table.specs.Find.{firstFrom, firstOf}
-use Rattle.table.specs.Own.{replyFor}
-use Rattle.table.specs.Incoming.{alike, freeIncoming, messageFor, openAlike}
-use Rattle.table.specs.declared.Found.the-variants.{At, Nowhere}
-use Rattle.exchange.specs.Flags.{noFlags, incomingFlags}
-use Rattle.exchange.specs.Exchange.{freshExchange, putIncoming, savedNow}
-use Rattle.exchange.specs.Judge.{judging, isSaved, continuedAs, messageBlock, beginsAt, judgeOf}
-use Rattle.exchange.specs.Reading.{wanted, ownReading, incomingReading}
-use Rattle.exchange.specs.Assembly.{headerIn, dataIn, Receiver, freshReceiver, heard, receives, received, Assembled, AssemblyOfCut}
-use Rattle.exchange.specs.declared.Note.the-variants.{Kept}
-use Rattle.exchange.specs.declared.Sending.the-variants as sending
+use Rattle.table.specs.Incoming.{freeIncoming}
+use Rattle.table.specs.Theorems.{Alike}
+use Rattle.table.proofs.Finding.{free-incoming-lowest}
+use Rattle.exchange.specs.Flags.{incomingFlags}
+use Rattle.exchange.specs.Exchange.{ownPlace, incomingPlace, putIncoming, savedNow}
+use Rattle.exchange.specs.Judge.{judgeOf}
+use Rattle.exchange.specs.Reading.{wanted, incomingReading}
+use Rattle.exchange.specs.Rules.{Fours, LowestAt, New, OfMessage, goes-on, ReplyHere, MessageHere, FreeAt, openFrom, begunWith, Comes, bytesBefore, NewPrimary, Fits, MessageGoes, kept}
+use Rattle.exchange.specs.Releases as side
+use Rattle.exchange.specs.Assembly.{headerIn, dataIn, receiverOf, passes, received, ticksBefore, WithinT4, ReadyFor, Assembled, AssemblyOfCut}
 use Rattle.exchange.specs.declared.Exchange.{Exchange}
-use Rattle.exchange.specs.declared.Judged.{Judged}
-use Rattle.exchange.specs.declared.IncomingReading.the-variants as incoming
-use Rattle.exchange.proofs.Repeated.{more, any-fresh}
-use Rattle.exchange.proofs.Outcomes.{not-saved, of-message, of-primary}
-use Rattle.exchange.proofs.Blocks.{same-header, arrivedAt, routed-at, continues-at, said, differ, fate-at}
-use Rattle.exchange.proofs.Growing.{filling, kept-front}
+use Rattle.exchange.proofs.Judging as test
+use Rattle.exchange.proofs.Notes.{notes-exactly}
+use Rattle.exchange.proofs.Leaving.{place-taken}
+use Rattle.exchange.proofs.Keeping.{no-incoming-flag, bytes-before, message-block}
+use Rattle.exchange.proofs.Finding.{lowest}
+use Rattle.exchange.proofs.Cases.{by-found}
+use Rattle.exchange.proofs.Runs.{four-places, sound-reached}
+use Rattle.exchange.proofs.Evens.{Even, even-taken, even-step, evens}
+use Rattle.exchange.proofs.Blocks.{same-header, continues-at, said, one-more, fits-at, ends-at}
+use Rattle.exchange.proofs.Passing.{sending-stays, fours-stay, kept-on, counts, openAt, open-on, free-on, not-alike, Beside, owns-beside}
+use Rattle.exchange.proofs.Coming.{ticks-first, raised, KeptFor, comes-to, complete}
 
--- ---- the states between
+-- whether place q is this one
+by-place : {A : Type 0} (q p : ℕ) → (q ≡ p → A) → (q ≢ p → A) → A
+by-place {A} q p here there = either (eqb q p) (λ t. A) (λ e. here (eqb-true q p e)) (λ e. there (eqb-false q p e))
 
--- a message whose first block had header `first`
-abbrev message-at : Header → IncomingStage → Incoming
-message-at first s = record { header = first; stage = s }
+module _ (c : Terms) (pauses : ℕ → ℕ) (x : Exchange) (four : Fours x) (even : (q : ℕ) → q < 4 → Even (ownPlace x q))
+    (h : Header) (d : List ℕ) (i : InRange h) (q : Routed c h) (odd : h .function % 2 ≡ 1) (short : length d ≤ messageLimit)
+    (takes : ReadyFor c x h d) (t4 : WithinT4 c pauses d) where
+  -- ---- the other places, n ticks on
 
--- it is in incoming place 0, and there is nothing else; b are the bytes of the last header
-abbrev holding : ℕ → Header → List ℕ → IncomingStage → Exchange
-holding last first b s = record {
-  own = replicate 4 freshOwn;
-  incoming = message-at first s ∷ replicate 3 freshIncoming;
-  saved = record { any = true; header = b };
-  numbers = record { last = last; latest = 0 };
-  sending = sending.Nothing;
-}
-
--- after block k of the message with header h, n bytes in all: the last completes the message
-abbrev stage-by : Bool → ℕ → Header → ℕ → IncomingStage
-stage-by t k h n = cond t (Complete n) (Open (arrivedAt h k n))
-
--- what such a block is answered with
-abbrev answer-by : Bool → Exchange → Judged
-answer-by t x = record { exchange = x; note = Kept; flags = incomingFlags 0 t false }
-
--- ---- one block
-
--- the first block of a primary in a fresh place
-begun-at : (b : Header) (size n : ℕ) (t : Bool) → fateOf b 0 size ≡ cond t (Last n) (More n)
-    → incomingBegun freshIncoming b size ≡ message-at b (stage-by t (b .number) b n)
-unfolding begins
-begun-at b size n t e = ap (begunBy freshIncoming b) e ∙ by t
-  where
-    by : (t : Bool) → begunBy freshIncoming b (cond t (Last n) (More n)) ≡ message-at b (stage-by t (b .number) b n)
-    by true = refl
-    by false = refl
-
--- a further block of an open message
-offered-at : (first g : Header) (a : Arriving) (size n : ℕ) (t : Bool)
-    → continuesArriving (first .device) (first .system) a g ≡ true → fateOf g (a .length) size ≡ cond t (Last n) (More n)
-    → incomingOffered (message-at first (Open a)) g size ≡ message-at first (stage-by t (g .number) g n)
-unfolding incomingOffered goesOn continuesHere
-offered-at first g a size n t takes e =
-    ap (λ (k : Bool). cond k (goesOn (message-at first (Open a)) g size) (message-at first (Open a))) takes
-    ∙ ap (keptBy (message-at first (Open a)) g) e ∙ by t
-  where
-    by : (t : Bool) → keptBy (message-at first (Open a)) g (cond t (Last n) (More n)) ≡ message-at first (stage-by t (g .number) g n)
-    by true = refl
-    by false = refl
-
--- what it is answered with, and what becomes of its data
-continued-at : (x : Exchange) (first : Header) (a : Arriving) (n : ℕ) (after : Incoming) (t : Bool) (d room : List ℕ)
-    → continuedAs x 0 (message-at first (Open a)) after (cond t (Last n) (More n)) d room
-    ≡ judging (answer-by t (putIncoming x 0 after)) (keptIn room (message.Incoming 0) (a .length) d)
-continued-at x first a n after true d room = refl
-continued-at x first a n after false d room = refl
-
--- it is found to continue the message in place 0
-found-at : (first g : Header) (a : Arriving) → continuesArriving (first .device) (first .system) a g ≡ true
-    → messageFor (message-at first (Open a) ∷ replicate 3 freshIncoming) g ≡ At 0
-unfolding messageFor firstOf firstFrom continuesHere
-found-at first g a takes = ap (λ (k : Bool). cond k (At 0) Nowhere) takes
-
--- ---- all blocks of a message
-
-module _ (c : Terms) (last : ℕ) (h : Header) (d : List ℕ) (i : InRange h) (q : Routed c h) (odd : h .function % 2 ≡ 1)
-    (short : length d ≤ messageLimit) where
-  -- what the header of block k leaves of it
-  stage-is : (k n : ℕ) (t : Bool) → k ≤ blockCount (length d) → stage-by t (headerOf (headerIn h d k) .number) (headerOf (headerIn h d k)) n ≡ stage-by t k h n
+  -- no own place takes a block of it for its reply's
+  no-reply : (n : ℕ) (y : Exchange) → ((j : ℕ) → ownPlace y j ≡ ownPlace (passes c x n) j) → (k : ℕ) → k ≤ blockCount (length d)
+      → ReplyHere y (headerOf (headerIn h d k)) → ⊥
   unfolding headerAt
-  stage-is k n t most = ap (λ (g : Header). stage-by t (g .number) g n) (said h d i short k most)
+  no-reply n y same k most w =
+      let b : Header = headerOf (headerIn h d k) in
+      let j : ℕ = w .place in
+      let e = kept-on side.own c x j Even (λ o g. even-step c (o .header) (o .stage) event.tick g) (even j (w .within)) n in
+      let f : b .function ≡ h .function = ap (λ (g : Header). g .function) (said h d i short k most) in
+      let a = even-taken (ownPlace y j) b (subst Even (sym (same j)) e) (w .so) in
+      omega arith
 
-  -- the first begins a primary
-  begins-primary : 1 ≤ blockCount (length d) → beginsPrimary (headerOf (headerIn h d 1)) ≡ true
+  -- no open message has its system bytes
+  none-alike : (n j : ℕ) → j < 4 → Alike h (incomingPlace (passes c x n) j) → ⊥
+  none-alike n j less =
+      kept-on side.incoming c x j (λ o. Alike h o → ⊥) (not-alike c h) (λ w. takes .no-alike (record { place = j; within = less; so = w })) n
+
+  -- which a message has that a block of it continues
+  alike-taken : (o : Incoming) (k : ℕ) → k ≤ blockCount (length d) → OfMessage o (headerOf (headerIn h d k)) → Alike h o
   unfolding headerAt
-  begins-primary some = rw (said h d i short 1 some) (primary-exactly (headerAt h (length d) 1) .1 (odd, inl refl))
+  alike-taken o k most (goes-on a e w) = (ap isOpen e, sym (w .system) ∙ ap (λ (g : Header). g .system) (said h d i short k most))
 
-  -- a further one continues the message of the first
-  takes : (k n : ℕ) → k < blockCount (length d)
-      → continuesArriving (headerOf (headerIn h d 1) .device) (headerOf (headerIn h d 1) .system) (arrivedAt h k n) (headerOf (headerIn h d (suc k))) ≡ true
-  unfolding headerAt
-  takes k n less =
-      rw (said h d i short 1 (omega arith), said h d i short (suc k) less)
-      (continues-exactly (h .device) (h .system) (arrivedAt h k n) (headerAt h (length d) (suc k)) .1 (continues-at h (length d) k n))
+  -- ---- its place
 
-  -- the transactions after block k
-  after : ℕ → Bool → Exchange
-  after k t = holding last (headerOf (headerIn h d 1)) (headerIn h d k) (stage-by t k h (length (joined h d k)))
+  -- the lowest that is free when the first block comes
+  free-then : (n : ℕ) → (p : ℕ) × LowestAt (FreeAt (passes c x n)) p
+  free-then n =
+      let y : Exchange = passes c x n in
+      let low = free-incoming-lowest (y .incoming) (fours-stay c x n four .incoming) in
+      by-found (freeIncoming (y .incoming)) (λ f. (p : ℕ) × LowestAt (FreeAt y) p)
+      (λ p e. (p, lowest (freeIncoming (y .incoming)) _ (FreeAt y) low (λ j. test.is-free _) p .0 e))
+      (λ e.
+      absurd (low .nowhere .0 e (takes .free .place) (takes .free .within)
+      (test.is-free _ .1 (kept-on side.incoming c x (takes .free .place) (λ o. o .stage ≡ Free) (free-on c) (takes .free .so) n))))
 
-  -- block 1 opens the message, or completes it at once
-  first-judged : (t : Bool) (room : List ℕ) → 1 ≤ blockCount (length d) → eqb 1 (blockCount (length d)) ≡ t
-      → judgeOf c (freshExchange last) (headerIn h d 1) (dataIn h d 1) room
-      ≡ judging (answer-by t (after 1 t)) (keptIn room (message.Incoming 0) (length (joined h d 0)) (dataIn h d 1))
-  unfolding after joined isSaved replyFor messageFor openAlike freeIncoming alike firstOf firstFrom beginsAt putIncoming savedNow
-  first-judged t room some e =
-      let b : List ℕ = headerIn h d 1 in
-      let n : ℕ = length (joined h d 1) in
-      let f = fate-at h d i short 0 t some e in
-      of-primary c (freshExchange last) b (dataIn h d 1) room (routed-at h d i short c 1 some q) (not-saved c (freshExchange last) b refl) 0 n t
-      refl refl refl refl (begins-primary some) f
-      ∙ ap (λ (o : Incoming). judging (answer-by t (putIncoming (savedNow (freshExchange last) b) 0 o)) (keptIn room (message.Incoming 0) 0 (dataIn h d 1)))
-      (begun-at (headerOf b) (length (dataIn h d 1)) n t f ∙ ap (message-at (headerOf b)) (stage-is 1 n t some))
+  -- the message once block k + 1 was kept, n bytes in all
+  abbrev opened : ℕ → ℕ → Arriving
+  opened k n = openFrom (headerAt h (length d) (suc k)) n
 
-  -- block k + 1 continues it, or completes it
-  further-judged : (k : ℕ) (t : Bool) (room : List ℕ) → 1 ≤ k → k < blockCount (length d) → eqb (suc k) (blockCount (length d)) ≡ t
-      → judgeOf c (after k false) (headerIn h d (suc k)) (dataIn h d (suc k)) room
-      ≡ judging (answer-by t (after (suc k) t)) (keptIn room (message.Incoming 0) (length (joined h d k)) (dataIn h d (suc k)))
-  unfolding after isSaved replyFor firstOf firstFrom messageBlock putIncoming savedNow
-  further-judged k t room some less e =
-      let first : Header = headerOf (headerIn h d 1) in
-      let b : List ℕ = headerIn h d (suc k) in
-      let have : ℕ = length (joined h d k) in
-      let size : ℕ = length (dataIn h d (suc k)) in
-      let n : ℕ = length (joined h d (suc k)) in
-      let f = fate-at h d i short k t less e in
-      let x : Exchange = savedNow (after k false) b in
-      let a : Arriving = arrivedAt h k have in
-      let before : Incoming = message-at first (Open a) in
-      of-message c (after k false) b (dataIn h d (suc k)) room (routed-at h d i short c (suc k) less q)
-      (not-saved c (after k false) b (differ h d i short k (suc k) (omega arith) less (λ z. omega arith)))
-      0 refl (found-at first (headerOf b) a (takes k have less))
-      ∙ ap (λ (z : Fate). continuedAs x 0 before (incomingOffered before (headerOf b) size) z (dataIn h d (suc k)) room) f
-      ∙ continued-at x first a n (incomingOffered before (headerOf b) size) t (dataIn h d (suc k)) room
-      ∙ ap (λ (o : Incoming). judging (answer-by t (putIncoming x 0 o)) (keptIn room (message.Incoming 0) have (dataIn h d (suc k))))
-      (offered-at first (headerOf b) a size n t (takes k have less) f ∙ ap (message-at first) (stage-is (suc k) n t less))
+  -- its place then: the last block completes it
+  abbrev held : ℕ → Bool → ℕ → Incoming
+  held k t n = record { header = headerAt h (length d) 1; stage = cond t (Complete n) (Open (opened k n)) }
 
-  -- ---- all of them
+  -- and before block k + 1: it is free, or so many ticks have passed since the block before
+  abbrev Before : ℕ → Incoming → Type 0
+  Before zero o = o .stage ≡ Free
+  Before (suc k) o = (n : ℕ) × (o ≡ openAt c (headerAt h (length d) 1) (opened k (length (joined h d (suc k)))) n)
 
-  module _ (room : List ℕ) (whole : length room ≡ 36864) where
-    -- the receiver once blocks 1 to k + 1 came
-    stands : ℕ → Bool → Receiver
-    stands k t = record {
-      exchange = after (suc k) t;
-      room = filling room (message.Incoming 0) h d (suc k);
-      notes = replicate (suc k) 21;
-      flags = replicate k noFlags ++ (incomingFlags 0 t false ∷ []);
-    }
+  -- the flag of a place whose message is complete
+  flagged : (p : ℕ) (t : Bool) → incomingFlags p t false ≡ raised side.incoming p t
+  flagged p true = refl
+  flagged p false = no-incoming-flag p
 
-    -- by induction: each block but the last leaves the message open
-    arrives : (k : ℕ) (t : Bool) → k < blockCount (length d) → eqb (suc k) (blockCount (length d)) ≡ t
-        → received c (freshReceiver last room) h d (suc k) ≡ stands k t
-    unfolding received stands filling
-    arrives zero t less e = ap (heard (freshReceiver last room)) (first-judged t room less e)
-    arrives (suc k) t less e =
-        let before = arrives k false (omega arith) (ne-eqb (suc k) (blockCount (length d)) (λ z. omega arith)) in
-        ap (λ (r : Receiver). receives c r (headerIn h d (suc (suc k))) (dataIn h d (suc (suc k)))) before
-        ∙ ap (heard (stands k false)) (further-judged (suc k) t (filling room (message.Incoming 0) h d (suc k)) (omega arith) less e)
-        ∙ (λ j. record {
-          exchange = after (suc (suc k)) t;
-          room = filling room (message.Incoming 0) h d (suc (suc k));
-          notes = more 21 (suc k) j;
-          flags = more noFlags k j ++ (incomingFlags 0 t false ∷ []);
+  module _ (p : ℕ) (low : LowestAt (FreeAt (passes c x (ticksBefore pauses 1))) p) where
+    -- elsewhere no open message has its system bytes
+    none-there : (n : ℕ) (y : Exchange) → Beside side.incoming p (passes c x n) y → (j : ℕ) → j < 4 → j ≢ p → Alike h (incomingPlace y j) → ⊥
+    none-there n y beside j less ne w = none-alike n j less (subst (Alike h) (beside .others side.incoming j (λ e. ne)) w)
+
+    -- the first block takes the place
+    first-kept : (t : Bool) (y : Exchange) (room : List ℕ) → 0 < blockCount (length d) → eqb 1 (blockCount (length d)) ≡ t
+        → Fours y → New c y (headerIn h d 1) → Beside side.incoming p (passes c x (ticksBefore pauses 1)) y → incomingPlace y p .stage ≡ Free
+        → KeptFor side.incoming y p (headerIn h d 1) (held 0 t (length (joined h d 1))) t (keptIn room (message.Incoming p) (length (joined h d 0)) (dataIn h d 1))
+        (judgeOf c y (headerIn h d 1) (dataIn h d 1) room)
+    unfolding headerAt joined
+    first-kept t y room some e fours new beside free =
+        let b : List ℕ = headerIn h d 1 in
+        let src : List ℕ = dataIn h d 1 in
+        let g : Header = headerOf b in
+        let says : g ≡ headerAt h (length d) 1 = said h d i short 1 some in
+        let fit = fits-at h d i short 0 some in
+        let none : (j : ℕ) → j < 4 → Alike h (incomingPlace y j) → ⊥ =
+        λ j less w.
+        by-place j p (λ s. false≢true (sym (ap isOpen free) ∙ subst (λ m. isOpen (incomingPlace y m .stage) ≡ true) s (w .0)))
+        (λ ne. none-there (ticksBefore pauses 1) y beside j less ne w) in
+        let primary : NewPrimary c y b src =
+        record {
+          new = new;
+          no-reply = no-reply (ticksBefore pauses 1) y (owns-beside beside) 1 some;
+          no-message = λ w. none (w .place) (w .within) (alike-taken _ 1 some (w .so));
+          begins = rw says (record { odd = odd; starts = inl refl });
+          has-data = fit .has-data;
+          fits = omega (arith, fit .fits);
+        } in
+        let judges =
+        place-taken c y b src room fours primary .free
+        (λ w. none (w .place) (w .within) (w .so .0, w .so .1 ∙ ap (λ (a : Header). a .system) says)) p
+        (record {
+          within = low .within;
+          so = free;
+          none-below = λ j less f. low .none-below j less (subst (λ (o : Incoming). o .stage ≡ Free) (beside .others side.incoming j (λ s m. omega arith)) f);
+        }) in
+        let ends : g .e ≡ t = ends-at h d i short 1 some ∙ e in
+        let size : length src ≡ length (joined h d 1) = omega (arith, one-more h d 0) in
+        subst (KeptFor side.incoming y p b (held 0 t (length (joined h d 1))) t (keptIn room (message.Incoming p) 0 src)) (sym judges)
+        (record {
+          note = refl;
+          comes = record {
+            state =
+                ap (putIncoming (savedNow y b) p)
+                (ap (λ (a : Header). begunWith a (length src)) says
+                ∙ (λ m. record { header = headerAt h (length d) 1; stage = cond (e m) (Complete (size m)) (Open (opened 0 (size m))) }));
+            flags = ap (λ (u : Bool). incomingFlags p u false) ends ∙ flagged p t;
+            bytes = refl;
+          };
         })
 
-    -- what is there behind the last block is the message
-    assembled : (k : ℕ) → suc k ≡ blockCount (length d) → Assembled h d (stands k true)
-    unfolding stands after incomingReading ownReading wanted headerAt
-    assembled k e =
-        let all : joined h d (suc k) ≡ d = ap (joined h d) e ∙ cut-joined h d (omega arith) in
-        record {
-          notes = ap (λ (m : ℕ). replicate m 21) e;
-          flags =
-              let m : k ≡ blockCount (length d) - 1 = omega arith in
-              ap (λ (j : ℕ). replicate j noFlags ++ (incomingFlags 0 true false ∷ [])) m;
-          primary = headerAt h (length d) 1;
-          complete = rw (said h d i short 1 (omega arith), all);
-          same = same-header h (length d) 1;
-          bytes =
-              rw all at (kept-front room whole (message.Incoming 0) (omega arith) h d i short (suc k) (omega arith));
-          others = others;
-          owns = λ p. rw (any-fresh freshOwn 4 p);
-        }
+    -- a later one continues the message
+    next-kept : (k : ℕ) (t : Bool) (y : Exchange) (room : List ℕ) → suc k < blockCount (length d) → eqb (suc (suc k)) (blockCount (length d)) ≡ t
+        → Fours y → New c y (headerIn h d (suc (suc k))) → Beside side.incoming p (passes c x (ticksBefore pauses (suc (suc k)))) y → Before (suc k) (incomingPlace y p)
+        → KeptFor side.incoming y p (headerIn h d (suc (suc k))) (held (suc k) t (length (joined h d (suc (suc k))))) t
+        (keptIn room (message.Incoming p) (length (joined h d (suc k))) (dataIn h d (suc (suc k))))
+        (judgeOf c y (headerIn h d (suc (suc k))) (dataIn h d (suc (suc k))) room)
+    unfolding headerAt
+    next-kept k t y room less e fours new beside before = record {
+      note =
+          notes-exactly c y b src room fours 21 .1
+          (kept new (inr (inl there)) (fit .has-data) (omega (arith, have, fit .fits)) (inr (inl there)));
+      comes = comes t (ends-at h d i short (suc (suc k)) less ∙ e);
+    }
       where
-        others : (p : ℕ) → 1 ≤ p → incomingReading (stands k true .exchange) p ≡ incoming.NoPlace
-        others zero some = absurd (omega arith)
-        others (suc p) some = rw (any-fresh freshIncoming 3 p)
+        b : List ℕ
+        b = headerIn h d (suc (suc k))
+
+        src : List ℕ
+        src = dataIn h d (suc (suc k))
+
+        fit : Fits (headerOf b) (length (joined h d (suc k))) src
+        fit = fits-at h d i short (suc k) less
+
+        says : headerOf b ≡ headerAt h (length d) (suc (suc k))
+        says = said h d i short (suc (suc k)) less
+
+        none : ReplyHere y (headerOf b) → ⊥
+        none = no-reply (ticksBefore pauses (suc (suc k))) y (owns-beside beside) (suc (suc k)) less
+
+        -- of the open messages this one
+        this : LowestAt (λ j. OfMessage (incomingPlace y j) (headerOf b)) p
+        this = record {
+          within = low .within;
+          so =
+              subst (λ (o : Incoming). OfMessage o (headerOf b)) (sym (before .1))
+              (goes-on _ refl (rw says (continues-at h (length d) (suc k) (length (joined h d (suc k))))));
+          none-below = λ j under w.
+              none-there (ticksBefore pauses (suc (suc k))) y beside j (omega (arith, low .within)) (λ m. omega arith) (alike-taken _ (suc (suc k)) less w);
+        }
+
+        there : MessageHere y (headerOf b)
+        there = record { place = p; within = low .within; so = this .so }
+
+        have : bytesBefore y (headerOf b) ≡ length (joined h d (suc k))
+        have = bytes-before y (headerOf b) fours .message none p this ∙ ap incomingLength (before .1)
+
+        goes : MessageGoes y b src room p (length (joined h d (suc k))) (judgeOf c y b src room)
+        goes = subst (λ (n : ℕ). MessageGoes y b src room p n (judgeOf c y b src room)) have (message-block c y b src room fours new none p this)
+
+        size : length (joined h d (suc k)) + length src ≡ length (joined h d (suc (suc k)))
+        size = sym (one-more h d (suc k))
+
+        comes : (t : Bool) → headerOf b .e ≡ t
+            → Comes (judgeOf c y b src room) (putIncoming (savedNow y b) p (held (suc k) t (length (joined h d (suc (suc k)))))) (raised side.incoming p t)
+            (keptIn room (message.Incoming p) (length (joined h d (suc k))) src)
+        comes true f =
+            comes-to (ap (putIncoming (savedNow y b) p) (λ m. record { header = before .1 m .header; stage = Complete (size m) })) (goes .complete fit f)
+        comes false f =
+            comes-to (ap (putIncoming (savedNow y b) p) (λ m. record { header = before .1 m .header; stage = Open (openFrom (says m) (size m)) })) (goes .more fit f)
+
+    judged : (k : ℕ) (t : Bool) (y : Exchange) (room : List ℕ) → k < blockCount (length d) → eqb (suc k) (blockCount (length d)) ≡ t
+        → Fours y → New c y (headerIn h d (suc k)) → Beside side.incoming p (passes c x (ticksBefore pauses (suc k))) y → Before k (incomingPlace y p)
+        → KeptFor side.incoming y p (headerIn h d (suc k)) (held k t (length (joined h d (suc k)))) t
+        (keptIn room (message.Incoming p) (length (joined h d k)) (dataIn h d (suc k))) (judgeOf c y (headerIn h d (suc k)) (dataIn h d (suc k)) room)
+    judged zero = first-kept
+    judged (suc k) = next-kept k
+
+    -- T4 has not run out
+    later : (k : ℕ) (y : Exchange) → suc k < blockCount (length d) → incomingPlace y p ≡ held k false (length (joined h d (suc k)))
+        → Before (suc k) (incomingPlace (passes c y (pauses (suc (suc k)))) p)
+    later k y less e =
+        let a : Arriving = opened k (length (joined h d (suc k))) in
+        let n : ℕ = pauses (suc (suc k)) in
+        let m : 0 + n ≤ c .t4 .0 = omega (arith, t4 (suc (suc k)) (omega arith) less) in
+        (0 + n, counts side.incoming c y p (openAt c (headerAt h (length d) 1) a) (c .t4 .0) (open-on c (headerAt h (length d) 1) a) 0 e n m)
+
+    assembled : (room : List ℕ) → length room ≡ 36864 → Assembled c pauses x h d (received c pauses (receiverOf x room) h d (blockCount (length d)))
+    unfolding incomingReading wanted headerAt
+    assembled room whole =
+        let free : FreeAt (passes c x (pauses 1)) p = subst (λ (n : ℕ). FreeAt (passes c x n) p) (ticks-first pauses) (low .so) in
+        let w = complete side.incoming c pauses x four p (low .within) h d i q short (takes .new) held Before free later judged room whole in
+        record {
+          place = p;
+          within = low .within;
+          free = free;
+          notes = w .notes;
+          flags = w .flags;
+          primary = headerAt h (length d) 1;
+          complete = rw (w .here);
+          same = same-header h (length d) 1;
+          bytes = w .bytes;
+          others = λ j ne. w .beside .others side.incoming j (λ e. ne);
+          owns = owns-beside (w .beside);
+          sending = w .beside .sending ∙ sending-stays c x _;
+          saved = w .saved;
+        }
 
 pub assembly-of-cut : AssemblyOfCut
-assembly-of-cut c last room h d whole i q odd short =
-    let w = count-is-fewest (length d) in
-    let e : suc (blockCount (length d) - 1) ≡ blockCount (length d) = omega arith in
-    let k : ℕ = blockCount (length d) - 1 in
-    subst (λ (m : ℕ). Assembled h d (received c (freshReceiver last room) h d m)) e
-    (rw (arrives c last h d i q odd short room whole k true (omega arith) (eq-eqb (suc k) (blockCount (length d)) e))
-    (assembled c last h d i q odd short room whole k e))
+assembly-of-cut c t w pauses room h d whole i q odd short takes t4 =
+    let four = four-places (t .exchange) (sound-reached c t w) in
+    let even = evens c t w in
+    let p = free-then c pauses (t .exchange) four even h d i q odd short takes t4 (ticksBefore pauses 1) in
+    assembled c pauses (t .exchange) four even h d i q odd short takes t4 (p .0) (p .1) room whole

@@ -2,7 +2,6 @@
 -- data are. Assumes nothing.
 use Prim.Native.Nat.{ℕ, suc, _+_, _*_, _≤_, _<_, min}
 use mathlib.Core.Path.{_≡_, refl, sym, ap, _∙_}
-use mathlib.Core.Bool.{Bool, false, cond}
 use mathlib.Core.List.{List}
 use mathlib.Core.Logic.{⊎-elim}
 use native.Mathlib.Omega.{arith}
@@ -11,7 +10,6 @@ use lib.Dec.{eqb}
 use lib.ListN.{length, length-append, length-take}
 use borrow.Author.Tests.{eqb-false}
 use Rattle.wire.specs.Message.{messageLimit}
-use Rattle.wire.proofs.Choice.{either}
 use Rattle.header.specs.Header.{InRange, headerOf}
 use Rattle.header.specs.Theorems.{SameElse}
 use Rattle.header.specs.declared.header.Header.{Header}
@@ -22,14 +20,8 @@ use Rattle.cut.specs.Theorems.{joined}
 use Rattle.cut.proofs.Counts.{count-is-fewest, most-blocks}
 use Rattle.cut.proofs.Cutting.{joined-front}
 use Rattle.place.specs.Message.{Routed, Continuing, LacksData}
-use Rattle.place.specs.Fate.{fateOf}
-use Rattle.place.specs.Arriving.{kindOf}
-use Rattle.place.specs.declared.Arriving.{Arriving}
-use Rattle.place.specs.declared.Fate.the-variants.{Last, More}
-use Rattle.exchange.specs.Judge.{sameBytes}
+use Rattle.exchange.specs.Rules.{openFrom, Fits}
 use Rattle.exchange.specs.Assembly.{headerIn, dataIn}
-use Rattle.exchange.proofs.Alike.{same-eq}
-use Rattle.exchange.proofs.Outcomes.{fate-kept}
 
 -- the header of block k is the message's but for number and E
 pub same-header : (h : Header) (n k : ℕ) → SameElse (headerAt h n k) h
@@ -40,12 +32,9 @@ pub number-at : (h : Header) (n k : ℕ) → headerAt h n k .number ≡ k
 unfolding headerAt
 number-at h n k = refl
 
--- the message once block k was kept, n bytes in all
-abbrev pub arrivedAt : Header → ℕ → ℕ → Arriving
-arrivedAt h k n = record { timer = 0; next = k + 1; kind = kindOf h; length = n }
-
--- block k + 1 of m bytes continues it then
-pub continues-at : (h : Header) (m k n : ℕ) → Continuing (h .device) (h .system) (arrivedAt h k n .next) (arrivedAt h k n .kind) (headerAt h m (suc k))
+-- block k + 1 of a message of m bytes continues it once block k was kept, n bytes in all
+pub continues-at : (h : Header) (m k n : ℕ)
+    → Continuing (h .device) (h .system) (openFrom (headerAt h m k) n .next) (openFrom (headerAt h m k) n .kind) (headerAt h m (suc k))
 unfolding headerAt
 continues-at h m k n = record { device = refl; system = refl; w = refl; stream = refl; function = refl; number = sym (add-one k) }
 
@@ -73,13 +62,10 @@ module _ (h : Header) (d : List ℕ) (i : InRange h) (short : length d ≤ messa
   routed-at c k most q = rw (said k most) (record { r = q .r; device = q .device })
 
   -- no two of them have the same header bytes
-  pub differ : (j k : ℕ) → j ≤ blockCount (length d) → k ≤ blockCount (length d) → (j ≡ k → ⊥) → sameBytes (headerIn h d j) (headerIn h d k) ≡ false
-  differ j k less most ne =
-      either (sameBytes (headerIn h d j) (headerIn h d k)) (λ t. t ≡ false)
-      (λ e.
-      let heads : headerAt h (length d) j ≡ headerAt h (length d) k = sym (said j less) ∙ ap headerOf (same-eq (headerIn h d j) (headerIn h d k) e) ∙ said k most in
-      absurd (ne (sym (number-at h (length d) j) ∙ ap (λ (g : Header). g .number) heads ∙ number-at h (length d) k)))
-      (λ e. refl)
+  pub differ : (j k : ℕ) → j ≤ blockCount (length d) → k ≤ blockCount (length d) → (j ≡ k → ⊥) → headerIn h d j ≡ headerIn h d k → ⊥
+  differ j k less most ne e =
+      let heads : headerAt h (length d) j ≡ headerAt h (length d) k = sym (said j less) ∙ ap headerOf e ∙ said k most in
+      ne (sym (number-at h (length d) j) ∙ ap (λ (g : Header). g .number) heads ∙ number-at h (length d) k)
 
   -- how many bytes the parts of blocks 1 to k have
   so-far : (k : ℕ) → k ≤ blockCount (length d) → length (joined h d k) ≡ min (k * 244) (length d)
@@ -100,12 +86,11 @@ module _ (h : Header) (d : List ℕ) (i : InRange h) (short : length d ≤ messa
       let z = lacks .none in
       ⊎-elim (λ e. omega (arith, eqb-false (suc k) (blockCount (length d)) e)) (λ l. omega arith) (lacks .wanted)
 
-  -- so it is kept, and only the last ends the message
-  pub fate-at : (k : ℕ) (t : Bool) → k < blockCount (length d) → eqb (suc k) (blockCount (length d)) ≡ t
-      → fateOf (headerOf (headerIn h d (suc k))) (length (joined h d k)) (length (dataIn h d (suc k)))
-      ≡ cond t (Last (length (joined h d (suc k)))) (More (length (joined h d (suc k))))
+  -- so it is kept
+  pub fits-at : (k : ℕ) → k < blockCount (length d) → Fits (headerOf (headerIn h d (suc k))) (length (joined h d k)) (dataIn h d (suc k))
+  fits-at k less = rw (said (suc k) less) (record { has-data = has-data k less; fits = omega (arith, one-more h d k, fits (suc k) less) })
+
+  -- and only the last ends the message
+  pub ends-at : (k : ℕ) → k ≤ blockCount (length d) → headerOf (headerIn h d k) .e ≡ eqb k (blockCount (length d))
   unfolding headerAt
-  fate-at k t less e =
-      let m = one-more h d k in
-      rw (said (suc k) less, one-more h d k, ← e)
-      (fate-kept (headerAt h (length d) (suc k)) (length (joined h d k)) (length (dataIn h d (suc k))) (has-data k less) (omega (arith, fits (suc k) less)))
+  ends-at k most = rw (said k most)

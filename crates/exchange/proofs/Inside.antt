@@ -53,7 +53,7 @@ ready-place x four p e =
     let out : length (x .incoming) ≤ p = omega (arith, ltb-false p 4 k) in
     absurd (false≢true (sym (rw (List·getD-eq-default (x .incoming) freshIncoming out) at e))))
 
-abbrev Ranged : Exchange → Type 0
+abbrev pub Ranged : Exchange → Type 0
 Ranged x = sendingInRange (x .sending) ≡ true
 
 module _ (c : Terms) (x : Exchange) (room : List ℕ) (four : Fours x) (g : Ranged x) where
@@ -64,7 +64,7 @@ module _ (c : Terms) (x : Exchange) (room : List ℕ) (four : Fours x) (g : Rang
       (λ q d p u e. in-range p (length d) (free-own-lowest (x .own) (four .own) .at p .0 e .0) (fits-area d (u .fits)))
       (λ p f d u a b. in-range p (length d) (ready-place x (four .incoming) p a) (fits-area d (u .fits))) (λ p e. g) (λ p e. g)
 
-  one-ranged : (k : Call) → Ranged (called c x room k .exchange)
+  pub one-ranged : (k : Call) → Ranged (called c x room k .exchange)
   one-ranged (block h d) = ap sendingInRange (sending-ends c x .judged h d room) ∙ g
   one-ranged tick = ap sendingInRange (sending-ends c x .ticked) ∙ g
   one-ranged acknowledged = ap sendingInRange (sending-ends c x .acknowledged)

@@ -109,7 +109,7 @@ unfolding savedNow
 saved-good x h room s g = record { whole = g .whole; own = g .own; incoming = g .incoming; sends = g .sends }
 
 -- a place is put anew; of these places f is joined
-abbrev putIn : (z : Side) → Exchange → ℕ → Place z → Exchange
+abbrev pub putIn : (z : Side) → Exchange → ℕ → Place z → Exchange
 putIn side.own = putOwn
 putIn side.incoming = putIncoming
 

@@ -55,7 +55,7 @@ no-mark (suc (suc (suc (suc p)))) = refl
 no-verdict-flag : (p : ℕ) → verdictFlag p false ≡ noFlags
 no-verdict-flag p = λ k. record { verdicts = no-mark p k; completed = noMarks; dropped = noMarks }
 
-no-incoming-flag : (p : ℕ) → incomingFlags p false false ≡ noFlags
+pub no-incoming-flag : (p : ℕ) → incomingFlags p false false ≡ noFlags
 no-incoming-flag p = λ k. record { verdicts = noMarks; completed = no-mark p k; dropped = no-mark p k }
 
 -- the fate of a block that spoils its message

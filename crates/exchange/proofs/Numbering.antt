@@ -268,7 +268,7 @@ module _ (x : Exchange) (four : Fours x) (fits : x .numbers .last ≤ 65535) whe
   given-fits : numberGiven x ≤ 65535
   given-fits = number-given (x .own) (x .numbers .last) (x .numbers .latest) (four .own) fits .fits
 
-  given-shown : (c : Terms) (q : Primary) (d room : List ℕ) (p : ℕ) (y : Exchange) (left : List ℕ) → Opened c x q d room p y left → numberShown (ownReading y p) ≡ numberGiven x
+  pub given-shown : (c : Terms) (q : Primary) (d room : List ℕ) (p : ℕ) (y : Exchange) (left : List ℕ) → Opened c x q d room p y left → numberShown (ownReading y p) ≡ numberGiven x
   unfolding ownReading
   given-shown c q d room p y left o =
       ap (λ (i : Own). numberShown (read i)) (o .place) ∙ number-back (o .header) ∙ omega (arith, o .as-asked .system, given-fits)

@@ -12,11 +12,12 @@ pub mod Refusals
 pub mod Table
 pub mod History
 pub mod BeingSent
-pub mod SavedHeader
 pub mod Releases
 pub mod Theorems
 pub mod Watching
+pub mod SavedHeader
 pub mod Underway
 pub mod Places
 pub mod Assembly
 pub mod Numbers
+pub mod Posting

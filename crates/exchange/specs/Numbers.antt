@@ -140,11 +140,11 @@ inUse NoPlace = false
 inUse (Place h s r) = true
 
 -- "The system bytes of a primary message must be distinct from": where their lower half, the number, is, they are, whatever the source
--- IDs. (The third distinction: docs/EXCEPTIONS.md.)
+-- IDs. (What this leaves of the second distinction, and the third: docs/EXCEPTIONS.md.)
 pub record NumberNew (x : Exchange) (s : NumbersSeen) (number : ℕ) : Type 0 where
   -- "those of all currently open transactions initiated from the same end": of every own place in use, one with a verdict too
   pub from-open : (p : ℕ) → p < 4 → inUse (ownReading x p) ≡ true → number ≢ numberShown (ownReading x p)
-  -- "those of the most recently completed transaction", in its place or released
+  -- "those of the most recently completed transaction": of the latest own one to get a verdict, in its place or released
   pub from-latest : number ≢ s .latest
 
 -- the number that an accepted primary shows is such a one

@@ -2,6 +2,7 @@
 use Prim.Native.Nat.{ℕ}
 use mathlib.Core.Bool.{Bool, true, false, cond, not}
 use Rattle.header.specs.declared.header.Header.{Header}
+use Rattle.place.specs.Message.{noHeader}
 use Rattle.place.specs.Own.{primaryOf as ownPrimary, ownStanding, ownIsFree, ownKept}
 use Rattle.place.specs.Incoming.{primaryOf as incomingPrimary, incomingLength, incomingIsFree, incomingIsOpen}
 use Rattle.place.specs.declared.End.{End}
@@ -46,6 +47,11 @@ unfoldable pub incomingReading : Exchange → ℕ → IncomingReading
 incomingReading x p =
     cond (incomingIsFree (incomingPlace x p)) incoming.NoPlace
     (incoming.Place (incomingPrimary (incomingPlace x p)) (incomingLength (incomingPlace x p)) (not (incomingIsOpen (incomingPlace x p))) (replyStage (incomingPlace x p)))
+
+-- the header of a message that is read
+abbrev pub headerBy : IncomingReading → Header
+headerBy incoming.NoPlace = noHeader
+headerBy (incoming.Place h n c r) = h
 
 -- what it says of our reply
 abbrev pub stageBy : IncomingReading → ReplyStage

@@ -26,6 +26,7 @@ use Rattle.exchange.specs.Exchange.{ownPlace, incomingPlace}
 use Rattle.exchange.specs.Tick.{tickOf}
 use Rattle.exchange.specs.Send.{sentOf, failedOf}
 use Rattle.exchange.specs.Judge.{judgeOf}
+use Rattle.exchange.specs.Request.{isSending}
 use Rattle.exchange.specs.Rules.{LowestAt, AlikeAt, NewPrimary}
 use Rattle.exchange.specs.Range.{exchangeInRange}
 use Rattle.exchange.specs.History.{Call, Track, track, atStart}
@@ -57,16 +58,11 @@ hasReply (stage.Awaiting timer) = false
 hasReply (stage.Replying a) = true
 hasReply (stage.Done v r) = onReply v
 
--- the length of the message being sent, and whether there is one
+-- the length of the message being sent
 abbrev pub lengthSent : Sending → ℕ
 lengthSent sending.Nothing = 0
 lengthSent (sending.Primary p n) = n
 lengthSent (sending.Reply p f n) = n
-
-abbrev pub sends : Sending → Bool
-sends sending.Nothing = false
-sends (sending.Primary p n) = true
-sends (sending.Reply p f n) = true
 
 -- "After 2, 3 or 4, or once an incoming message is complete, its area begins with the data of the kept blocks joined": and so does
 -- that of every reply and every message that is open; and the send area begins with the data of the message being sent.
@@ -75,7 +71,7 @@ pub record Areas (t : Track) : Type 0 where
       → StartsWith (t .room) (message.Reply p) (ownKept (ownPlace (t .exchange) p) .length) (t .seen .replies p)
   pub incoming : (p : ℕ) → p < 4 → incomingIsFree (incomingPlace (t .exchange) p) ≡ false
       → StartsWith (t .room) (message.Incoming p) (incomingLength (incomingPlace (t .exchange) p)) (t .seen .messages p)
-  pub outgoing : sends (t .exchange .sending) ≡ true → StartsWith (t .room) message.Send (lengthSent (t .exchange .sending)) (t .seen .outgoing)
+  pub outgoing : isSending (t .exchange) ≡ true → StartsWith (t .room) message.Send (lengthSent (t .exchange .sending)) (t .seen .outgoing)
 
 abbrev pub JoinedInAreas : Type 0
 JoinedInAreas = (c : Terms) (t : Track) → Reached c t → Areas t

@@ -6,14 +6,14 @@ use mathlib.Core.List.{List, [], _∷_}
 use native.Mathlib.Omega.{arith}
 use lib.Dec.{leb}
 use lib.ListN.{length, take, getD}
-use lib.Seq.{take-all, take-suc}
+use lib.Seq.{take-all, take-suc, getD-take}
 use borrow.Author.Tests.{le-leb, lt-leb, leb-true, leb-false}
 use Rattle.wire.proofs.Choice.{either}
 use Rattle.wire.specs.Bytes.{pairOf, quadOf, quartersOf}
 use Rattle.wire.proofs.Numbers.{quad-back, four-bytes-and-back}
 use Rattle.header.specs.Header.{topBit, firstTen, headerBytes, headerOf}
 use Rattle.header.specs.declared.header.Header.{Header}
-use Rattle.header.specs.Theorems.{TenBytesAndBack, TenBytesInRange, HeaderAndBack, NumberedKeeps, FirstTen, bit, HeaderLaidOut}
+use Rattle.header.specs.Theorems.{TenBytesAndBack, TenBytesInRange, HeaderAndBack, NoBitsAbove, NumberedKeeps, FirstTen, HeaderOfTen, bit, HeaderLaidOut}
 
 -- a bit above seven others is read back
 bit-back : (b : Bool) (x : ℕ) → leb 128 (topBit b + x % 128) ≡ b
@@ -133,6 +133,21 @@ first-ten b e = sym (rw (
   take-suc b 0 0 (omega arith),
 ))
 
+pub header-of-ten : HeaderOfTen
+unfolding headerOf
+header-of-ten b = sym (rw (
+  getD-take 10 b 0 0 (omega arith),
+  getD-take 10 b 1 0 (omega arith),
+  getD-take 10 b 2 0 (omega arith),
+  getD-take 10 b 3 0 (omega arith),
+  getD-take 10 b 4 0 (omega arith),
+  getD-take 10 b 5 0 (omega arith),
+  getD-take 10 b 6 0 (omega arith),
+  getD-take 10 b 7 0 (omega arith),
+  getD-take 10 b 8 0 (omega arith),
+  getD-take 10 b 9 0 (omega arith),
+))
+
 top-is : (b : Bool) → topBit b ≡ bit b * 128
 top-is true = refl
 top-is false = refl
@@ -146,3 +161,34 @@ header-laid-out h i = record {
   number = omega (arith, i .number, top-is (h .e));
   system = omega (arith, quad-back (h .system) (i .system));
 }
+
+-- a number's upper byte of seven bits, and its lower byte, are those of its lower 15 bits
+upper-bits : (x : ℕ) → x / 256 % 128 ≡ x % 32768 / 256 % 128
+upper-bits x = omega arith
+
+lower-bits : (x : ℕ) → x % 256 ≡ x % 32768 % 256
+lower-bits x = omega arith
+
+seven-bits : (x : ℕ) → x % 128 ≡ x % 128 % 128
+seven-bits x = omega arith
+
+-- and its four bytes those of its lower 32
+first-byte : (x : ℕ) → x / 16777216 % 256 ≡ x % 4294967296 / 16777216 % 256
+first-byte x = omega arith
+
+second-byte : (x : ℕ) → x / 65536 % 256 ≡ x % 4294967296 / 65536 % 256
+second-byte x = omega arith
+
+third-byte : (x : ℕ) → x / 256 % 256 ≡ x % 4294967296 / 256 % 256
+third-byte x = omega arith
+
+fourth-byte : (x : ℕ) → x % 256 ≡ x % 4294967296 % 256
+fourth-byte x = omega arith
+
+pub no-bits-above : NoBitsAbove
+unfolding headerBytes
+no-bits-above h = λ i.
+    (topBit (h .r) + upper-bits (h .device) i) ∷ lower-bits (h .device) i
+    ∷ (topBit (h .w) + seven-bits (h .stream) i) ∷ h .function
+    ∷ (topBit (h .e) + upper-bits (h .number) i) ∷ lower-bits (h .number) i
+    ∷ first-byte (h .system) i ∷ second-byte (h .system) i ∷ third-byte (h .system) i ∷ fourth-byte (h .system) i ∷ []

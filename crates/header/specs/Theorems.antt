@@ -1,5 +1,5 @@
 -- What is proved of the definitions of this crate, over all inputs. Each proof is in `proofs/`.
-use Prim.Native.Nat.{ℕ, _+_, _*_, _≤_}
+use Prim.Native.Nat.{ℕ, _+_, _*_, _%_, _≤_}
 use mathlib.Core.Path.{_≡_}
 use mathlib.Core.Bool.{Bool, true, false}
 use mathlib.Core.List.{List}
@@ -19,6 +19,23 @@ TenBytesInRange = (b : List ℕ) → Bytes b → InRange (headerOf b)
 -- a header in range is ten bytes and back
 abbrev pub HeaderAndBack : Type 0
 HeaderAndBack = (h : Header) → InRange h → headerOf (headerBytes h) ≡ h
+
+-- a header with the bits of each field and no more; a function has its eight by its type
+abbrev pub fieldBits : Header → Header
+fieldBits h = record {
+  r = h .r;
+  device = h .device % 32768;
+  w = h .w;
+  stream = h .stream % 128;
+  function = h .function;
+  e = h .e;
+  number = h .number % 32768;
+  system = h .system % 4294967296;
+}
+
+-- of a header out of range, "bits above a field's width do not go out" (docs/EXCEPTIONS.md)
+abbrev pub NoBitsAbove : Type 0
+NoBitsAbove = (h : Header) → headerBytes h ≡ headerBytes (fieldBits h)
 
 -- a bit as a number
 abbrev pub bit : Bool → ℕ
@@ -40,6 +57,10 @@ HeaderLaidOut = (h : Header) → InRange h → LaidOut h (headerBytes h)
 -- the ten bytes that a block's header is read from are its first ten
 abbrev pub FirstTen : Type 0
 FirstTen = (b : List ℕ) → 10 ≤ length b → firstTen b ≡ take 10 b
+
+-- and no byte behind them has a part in what they say
+abbrev pub HeaderOfTen : Type 0
+HeaderOfTen = (b : List ℕ) → headerOf b ≡ headerOf (take 10 b)
 
 -- all that two headers of one message share: "all else in the header is the same in each"
 pub record SameElse (a b : Header) : Type 0 where

@@ -1,6 +1,7 @@
 -- A block that comes in, byte by byte: what the line keeps of it is what came. Assumes nothing.
 use Prim.Native.Nat.{ℕ, _+_, _≤_, _<_}
-use mathlib.Core.Path.{_≡_, refl, sym, ap, _∙_}
+use mathlib.Core.Path.{_≡_, refl, sym, ap, subst, _∙_}
+use mathlib.Core.Logic.{_≢_}
 use mathlib.Core.List.{List, [], _∷_, _++_, append-assoc}
 use native.Mathlib.Omega.{arith}
 use native.Mathlib.Numerals.{add-one}
@@ -13,6 +14,8 @@ use Rattle.wire.proofs.Sums.{sum-by-byte}
 use Rattle.line.specs.Line.{opened, withByte, withHigh}
 use Rattle.line.specs.Theorems.{IsBlock}
 use Rattle.line.specs.declared.phase.Arrival.{Arrival}
+use Rattle.line.specs.declared.phase.Fault.{Fault}
+use Rattle.line.specs.declared.phase.Fault.the-variants.{Length, Sum}
 
 -- one byte more
 pub snoc : (bs : List ℕ) (b : ℕ) → length (bs ++ (b ∷ [])) ≡ length bs + 1
@@ -103,30 +106,43 @@ coming-last a b n rs bs body room most k w =
 
 -- ---- a block that is not taken
 
--- the bytes since our EOT begin with a length that is none, or are all of a block and its sum
-pub data Refused (bs : List ℕ) : Type 0 where
-  bad-length : (x : ℕ) (xs : List ℕ) → bs ≡ x ∷ xs → (10 ≤ x → x ≤ 254 → ⊥) → Refused bs
-  bad-sum : (n : ℕ) (xs : List ℕ) → bs ≡ n ∷ xs → n + 2 ≤ length xs → Refused bs
+-- the bytes since our EOT begin with a length that is none, or are all of a block and a sum that is not its own
+pub data Refused (bs : List ℕ) : Fault → Type 0 where
+  bad-length : (x : ℕ) (xs : List ℕ) → bs ≡ x ∷ xs → (10 ≤ x → x ≤ 254 → ⊥) → Refused bs Length
+  bad-sum : (n : ℕ) (body : List ℕ) (high low : ℕ) (rest : List ℕ) → bs ≡ n ∷ (body ++ (high ∷ low ∷ rest)) → 10 ≤ n → n ≤ 254 → length body ≡ n
+      → pairOf high low ≢ checksumOf body → Refused bs (Sum (pairOf high low) (checksumOf body))
 
-pub refused-more : (bs : List ℕ) (b : ℕ) → Refused bs → Refused (bs ++ (b ∷ []))
-refused-more bs b (bad-length x xs e out) = bad-length x (xs ++ (b ∷ [])) (rw e) out
-refused-more bs b (bad-sum n xs e much) = bad-sum n (xs ++ (b ∷ [])) (rw e) (omega (arith, snoc xs b))
+pub refused-more : (bs : List ℕ) (b : ℕ) (f : Fault) → Refused bs f → Refused (bs ++ (b ∷ [])) f
+refused-more bs b _ (bad-length x xs e out) = bad-length x (xs ++ (b ∷ [])) (rw e) out
+refused-more bs b _ (bad-sum n body high low rest e ten most size other) =
+    bad-sum n body high low (rest ++ (b ∷ [])) (rw e (ap (λ xs. n ∷ xs) (append-assoc body (high ∷ low ∷ rest) (b ∷ [])))) ten most size other
 
 -- no byte more makes a block of it
-pub refused-last : (bs : List ℕ) (b n : ℕ) (body : List ℕ) → Refused bs → IsBlock n body (bs ++ (b ∷ [])) → ⊥
-refused-last bs b n body (bad-length x xs e out) w =
+pub refused-last : (bs : List ℕ) (b n : ℕ) (body : List ℕ) (f : Fault) → Refused bs f → IsBlock n body (bs ++ (b ∷ [])) → ⊥
+refused-last bs b n body _ (bad-length x xs e out) w =
     let f = after-length n x body (xs ++ (b ∷ [])) (bs ++ (b ∷ [])) (rw e) w in
     out (omega (arith, f .0, w .not-short)) (omega (arith, f .0, w .not-long))
-refused-last bs b n body (bad-sum m xs e much) w =
-    omega (arith, after-count n m body (xs ++ (b ∷ [])) (bs ++ (b ∷ [])) (rw e) w, snoc xs b)
+refused-last bs b n body _ (bad-sum m front high low rest e ten most size other) w =
+    let xs = front ++ (high ∷ low ∷ rest) in
+    omega (arith, after-count n m body (xs ++ (b ∷ [])) (bs ++ (b ∷ [])) (rw e) w, snoc xs b, length-append front (high ∷ low ∷ rest))
 
 -- all N + 2 bytes have come, and their sums differ
-wrong : (a : Arrival) (rs xs : List ℕ) → length rs ≡ 256 → a .length ≤ 254 → a .length ≤ a .got → (a .got ≡ a .length → ⊥) → Taken a rs xs → a .length + 1 ≤ length xs
-wrong a rs xs room most ge ne (some le is adds) = absurd (ne (omega arith))
-wrong a rs xs room most ge ne (all eq is adds) =
-    let l : length xs ≡ length (take (a .length) rs) + 1 = rw is (snoc (take (a .length) rs) (a .high)) in
-    omega (arith, length-take-le (a .length) rs (omega arith))
+wrong : (a : Arrival) (b : ℕ) (rs bs xs : List ℕ) → 10 ≤ a .length → a .length ≤ 254 → length rs ≡ 256 → a .length ≤ a .got → (a .got ≡ a .length → ⊥)
+    → pairOf (a .high) b ≢ a .sum → bs ≡ a .length ∷ xs → Taken a rs xs → Refused (bs ++ (b ∷ [])) (Sum (pairOf (a .high) b) (a .sum))
+wrong a b rs bs xs ten most room ge ne other e (some le is adds) = absurd (ne (omega arith))
+wrong a b rs bs xs ten most room ge ne other e (all eq is adds) =
+    subst (λ s. Refused (bs ++ (b ∷ [])) (Sum (pairOf (a .high) b) s)) (sym adds)
+    (bad-sum (a .length) (take (a .length) rs) (a .high) b [] (rw (e, is) (ap (λ ys. a .length ∷ ys) (append-assoc (take (a .length) rs) _ _))) ten most
+    (length-take-le (a .length) rs (omega arith)) (λ z. other (z ∙ sym adds)))
 
-pub coming-wrong : (a : Arrival) (b : ℕ) (rs bs : List ℕ) → length rs ≡ 256 → a .length ≤ 254 → a .length ≤ a .got → (a .got ≡ a .length → ⊥) → Coming a rs bs → Refused (bs ++ (b ∷ []))
-coming-wrong a b rs bs room most ge ne k =
-    bad-sum (a .length) (k .after ++ (b ∷ [])) (rw (k .came)) (omega (arith, snoc (k .after) b, wrong a rs (k .after) room most ge ne (k .taken)))
+pub coming-wrong : (a : Arrival) (b : ℕ) (rs bs : List ℕ) → 10 ≤ a .length → a .length ≤ 254 → length rs ≡ 256 → a .length ≤ a .got → (a .got ≡ a .length → ⊥)
+    → pairOf (a .high) b ≢ a .sum → Coming a rs bs → Refused (bs ++ (b ∷ [])) (Sum (pairOf (a .high) b) (a .sum))
+coming-wrong a b rs bs ten most room ge ne other k = wrong a b rs bs (k .after) ten most room ge ne other (k .came) (k .taken)
+
+-- before that, fewer have come
+pub coming-short : (a : Arrival) (rs bs : List ℕ) → a .length ≤ 254 → length rs ≡ 256 → (k : Coming a rs bs) → length (k .after) < a .length + 2
+coming-short a rs bs most room k = by (k .taken)
+  where
+    by : Taken a rs (k .after) → length (k .after) < a .length + 2
+    by (some le is adds) = omega (arith, ap length is ∙ length-take-le (a .got) rs (omega arith))
+    by (all eq is adds) = omega (arith, ap length is ∙ snoc (take (a .length) rs) (a .high), length-take-le (a .length) rs (omega arith))

@@ -22,6 +22,7 @@ use Rattle.line.proofs.Retrying.{retried}
 use Rattle.line.proofs.Arrivals.{snoc, Coming, coming-opened, coming-byte, coming-high, coming-low, coming-wrong, Refused, bad-length, bad-sum, refused-more}
 use Rattle.line.specs.declared.phase.Phase.{Phase}
 use Rattle.line.specs.declared.phase.Phase.the-variants.{Idle, WaitEot, Draining, WaitAck, WaitLength, Body, Silence}
+use Rattle.line.specs.declared.phase.Fault.{Fault}
 use Rattle.line.specs.declared.phase.Fault.the-variants.{Length}
 use Rattle.line.specs.declared.step.Out.{Out}
 use Rattle.line.specs.declared.step.Out.the-variants.{Code}
@@ -73,7 +74,7 @@ Holds (Draining tries) rs bs = Unit {0}
 Holds (WaitAck timer tries) rs bs = Unit {0}
 Holds (WaitLength timer) rs bs = bs ≡ []
 Holds (Body timer a) rs bs = Coming a rs bs
-Holds (Silence timer fault) rs bs = Refused bs
+Holds (Silence timer fault) rs bs = Refused bs fault
 
 pub record Good (c : Limits) (t : Track) : Type 0 where
   pub ours : t .seen .ours ≡ oursAt (t .line .phase)
@@ -163,9 +164,9 @@ fewer c tries w few short =
     omega (arith, mul-le-mul-right (perTry c) m)
 
 -- the length byte of a block that is not taken has come
-pub after-refused : (c : Limits) (bs : List ℕ) → Refused bs → patience c bs ≡ c .t1 .0
-after-refused c bs (bad-length x xs e out) = rw e refl
-after-refused c bs (bad-sum n xs e much) = rw e refl
+pub after-refused : (c : Limits) (bs : List ℕ) (f : Fault) → Refused bs f → patience c bs ≡ c .t1 .0
+after-refused c bs _ (bad-length x xs e out) = rw e refl
+after-refused c bs _ (bad-sum n body high low rest e ten most size other) = rw e refl
 
 -- what call k leaves of a line and its onlooker
 abbrev Leaves : Limits → Bool → Phase → List ℕ → ℕ → ℕ → ℕ → List ℕ → ℕ → Call → Type 0
@@ -212,8 +213,8 @@ at-byte c h (Body timer a) rs w e r bs q b fits g f m x =
     (λ j. kept refl refl refl refl refl refl refl (rw (snoc bs b) (omega (arith, eqb-true))) tt m (coming-high a b rs bs (eqb-true _ _ j) x))
     (λ j. chosen (λ s. P (heard s rs)) (eqb (pairOf (a .high) b) (a .sum)) _ _
     (λ l. said (also (coming-low a b rs bs (g .4) (g .5) m (ltb-false _ _ i) (eqb-false _ _ j) fits (eqb-true _ _ l) x) refl) tt never refl refl refl refl (also (g .1) (rw (snoc bs b) (omega arith))) tt m tt)
-    (λ l. kept refl refl refl refl refl refl refl (rw (snoc bs b) (omega arith)) tt m (coming-wrong a b rs bs m (g .5) (ltb-false _ _ i) (eqb-false _ _ j) x))))
-at-byte c h (Silence timer fault) rs w e r bs q b fits g f m x = kept refl refl refl refl refl refl refl (rw (snoc bs b) (omega arith)) tt m (refused-more bs b x)
+    (λ l. kept refl refl refl refl refl refl refl (rw (snoc bs b) (omega arith)) tt m (coming-wrong a b rs bs (g .4) (g .5) m (ltb-false _ _ i) (eqb-false _ _ j) (eqb-false _ _ l) x))))
+at-byte c h (Silence timer fault) rs w e r bs q b fits g f m x = kept refl refl refl refl refl refl refl (rw (snoc bs b) (omega arith)) tt m (refused-more bs b fault x)
 
 at-tick : (c : Limits) (h : Bool) (p : Phase) (rs : List ℕ) (w e r : ℕ) (bs : List ℕ) (q : ℕ) → Leaves c h p rs w e r bs q tick
 at-tick c h Idle rs w e r bs q g f m x = kept refl refl refl refl refl refl refl g tt m tt
@@ -240,7 +241,7 @@ at-tick c h (Body timer a) rs w e r bs q g f m x =
     (λ i. said tt tt (λ z. rw (x .came) (omega arith)) refl refl refl refl (omega arith) tt m tt) (λ i. kept refl refl refl refl refl refl refl (omega arith) tt m x)
 at-tick c h (Silence timer fault) rs w e r bs q g f m x =
     by-timer (c .t1) timer (λ t. Kept c (seenAt h (Silence timer fault) w e r bs q) tick (heard (silenceTick (lineAt h (Silence timer fault)) fault t) rs))
-    (λ i. said tt tt (λ z. rw (after-refused c bs x) (omega arith)) refl refl refl refl (omega arith) tt m tt) (λ i. kept refl refl refl refl refl refl refl (omega arith) tt m x)
+    (λ i. said tt tt (λ z. rw (after-refused c bs fault x) (omega arith)) refl refl refl refl (omega arith) tt m tt) (λ i. kept refl refl refl refl refl refl refl (omega arith) tt m x)
 
 at-drained : (c : Limits) (h : Bool) (p : Phase) (rs : List ℕ) (w e r : ℕ) (bs : List ℕ) (q : ℕ) → Leaves c h p rs w e r bs q drained
 at-drained c h Idle rs w e r bs q g f m x = kept refl refl refl refl refl refl refl g tt m tt

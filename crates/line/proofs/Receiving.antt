@@ -9,15 +9,18 @@ use lib.ListN.{length}
 use borrow.Author.Tests.{le-ltb, eq-eqb, ne-eqb}
 use Rattle.wire.specs.Bytes.{pairOf}
 use Rattle.line.specs.Line.{lineAt, bodyByte, lowByte}
-use Rattle.line.specs.Codes.{NAK}
-use Rattle.line.specs.History.{byte, puts, theirsAt, called, answered, next}
-use Rattle.line.specs.Theorems.{receiveLimit, ReceiveEnds, NakInTime, patience, IsBlock, UpIsWhatCame, WholeGoesUp}
-use Rattle.line.proofs.Cases.{ByByte, by-byte}
-use Rattle.line.proofs.Arrivals.{coming-last, refused-last, after-count}
+use Rattle.line.specs.Codes.{NAK, noteOf}
+use Rattle.line.specs.History.{Call, byte, tick, drained, ask, withdraw, settle, puts, theirsAt, Track, called, answered, next}
+use Rattle.line.specs.Theorems.{receiveLimit, ReceiveEnds, NakInTime, patience, NakFor, NakReasons, Reached, IsBlock, UpIsWhatCame, WholeGoesUp}
+use Rattle.line.specs.Theorems as why
+use Rattle.line.proofs.Cases.{ByByte, by-byte, ByTick, by-tick, by-settle}
+use Rattle.line.proofs.Arrivals.{coming-last, coming-short, Refused, bad-length, bad-sum, refused-last, after-count}
 use Rattle.line.proofs.Invariant.{At, Holds, Cause, after-refused}
 use Rattle.line.proofs.Always.{always, after-one}
 use Rattle.line.specs.declared.phase.Phase.{Phase}
 use Rattle.line.specs.declared.phase.Phase.the-variants.{Idle, WaitEot, Draining, WaitAck, WaitLength, Body, Silence}
+use Rattle.line.specs.declared.phase.Fault.{Fault}
+use Rattle.line.specs.declared.step.Remark.the-variants as remark
 use Rattle.line.specs.declared.step.Told.the-variants as told
 use Rattle.line.specs.declared.step.Step.{Step}
 use Rattle.settings.specs.declared.limits.Limits.{Limits}
@@ -46,7 +49,7 @@ patient c (Draining tries) w e r q rs bs g x z = absurd (false≢true z)
 patient c (WaitAck timer tries) w e r q rs bs g x z = absurd (false≢true z)
 patient c (WaitLength timer) w e r q rs bs g x z = rw x (omega arith)
 patient c (Body timer a) w e r q rs bs g x z = rw (x .came) (omega arith)
-patient c (Silence timer fault) w e r q rs bs g x z = rw (after-refused c bs x) (omega arith)
+patient c (Silence timer fault) w e r q rs bs g x z = rw (after-refused c bs fault x) (omega arith)
 
 -- a byte is never answered by NAK
 abbrev Mute : Step → Type 0
@@ -88,10 +91,61 @@ whole-up c h (Body timer a) w e r q rs bs b fits n body g m x z k =
     let over : ltb (a .got) (a .length) ≡ false = le-ltb (a .got) (a .length) (omega (arith, l .1)) in
     let not-high : eqb (a .got) (a .length) ≡ false = ne-eqb (a .got) (a .length) (λ same. omega (arith, l .1)) in
     simp (over, not-high, eq-eqb (pairOf (a .high) b) (a .sum) (l .2)) (ap told.Up (sym (l .0)))
-whole-up c h (Silence timer fault) w e r q rs bs b fits n body g m x z k = absurd (refused-last bs b n body x k)
+whole-up c h (Silence timer fault) w e r q rs bs b fits n body g m x z k = absurd (refused-last bs b n body fault x k)
 
 pub whole-goes-up : WholeGoesUp
 whole-goes-up c t w e b fits n body k =
     let g = always c t w in
     whole-up c (t .line .held) (t .line .phase) (t .seen .waited) (t .seen .enqs) (t .seen .took) (t .seen .silent) (t .received) (t .seen .bytes) b fits n body
     (g .counts) (g .room) (g .bytes) (sym (g .theirs) ∙ e) k
+
+-- ---- why a NAK leaves
+
+refused-for : (bs : List ℕ) (f : Fault) → Refused bs f → NakFor bs (remark.Bad f)
+refused-for bs _ (bad-length x xs e out) = why.bad-length x xs e out
+refused-for bs _ (bad-sum n body high low rest e ten most size other) = why.bad-sum n body high low rest e ten most size other
+
+abbrev Says : List ℕ → Step → Type 0
+Says bs z = (puts NAK (z .out) ≡ true → NakFor bs (z .remark)) × (puts NAK (z .out) ≡ false → noteOf (z .remark) ≡ 20)
+
+-- no NAK
+silent : {A B : Type 0} → B → (false ≡ true → A) × (false ≡ false → B)
+silent b = (λ e. absurd (false≢true e), λ e. b)
+
+-- one for this reason
+for : {A B : Type 0} → A → (true ≡ true → A) × (true ≡ false → B)
+for a = (λ e. a, λ e. absurd (false≢true (sym e)))
+
+byte-says : (bs : List ℕ) (c : Limits) (h : Bool) (p : Phase) (b : ℕ) → ByByte (Says bs) c h p b
+byte-says bs c h Idle b = (silent refl, silent refl)
+byte-says bs c h (WaitEot timer tries) b = (silent refl, silent refl, λ n. silent refl)
+byte-says bs c h (Draining tries) b = silent refl
+byte-says bs c h (WaitAck timer tries) b = (silent refl, silent refl, silent refl)
+byte-says bs c h (WaitLength timer) b = (silent refl, silent refl)
+byte-says bs c h (Body timer a) b = (λ x. silent refl, silent refl, λ f. silent refl)
+byte-says bs c h (Silence timer fault) b = silent refl
+
+tick-says : (c : Limits) (h : Bool) (p : Phase) (w e r q : ℕ) (rs bs : List ℕ) → At c p w e r (length bs) q → length rs ≡ 256 → Holds p rs bs → ByTick (Says bs) c h p
+tick-says c h Idle w e r q rs bs g m x = silent refl
+tick-says c h (WaitEot timer tries) w e r q rs bs g m x = (silent refl, silent refl, silent refl)
+tick-says c h (Draining tries) w e r q rs bs g m x = silent refl
+tick-says c h (WaitAck timer tries) w e r q rs bs g m x = (silent refl, silent refl, silent refl)
+tick-says c h (WaitLength timer) w e r q rs bs g m x = (for (why.no-length x), silent refl)
+tick-says c h (Body timer a) w e r q rs bs g m x =
+    (for (why.gap (a .length) (x .after) (x .came) (g .4) (g .5) (coming-short a rs bs (g .5) m x)), silent refl)
+tick-says c h (Silence timer fault) w e r q rs bs g m x = (for (refused-for bs fault x), silent refl)
+
+said-by : (c : Limits) (t : Track) → Reached c t → (k : Call) → Says (t .seen .bytes) (answered c t k .step)
+said-by c t w (byte b fits) =
+    by-byte (Says (t .seen .bytes)) c (t .line .held) (t .line .phase) b (t .received) (byte-says (t .seen .bytes) c (t .line .held) (t .line .phase) b)
+said-by c t w tick =
+    let g = always c t w in
+    by-tick (Says (t .seen .bytes)) c (t .line .held) (t .line .phase)
+    (tick-says c (t .line .held) (t .line .phase) (t .seen .waited) (t .seen .enqs) (t .seen .took) (t .seen .silent) (t .received) (t .seen .bytes) (g .counts) (g .room) (g .bytes))
+said-by c t w drained = silent refl
+said-by c t w ask = silent refl
+said-by c t w withdraw = silent refl
+said-by c t w settle = by-settle (Says (t .seen .bytes)) (t .line .held) (t .line .phase) (silent refl) (silent refl)
+
+pub nak-reasons : NakReasons
+nak-reasons c t w k = let s = said-by c t w k in record { why = s .0; else-none = s .1 }

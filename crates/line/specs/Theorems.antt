@@ -6,9 +6,9 @@ use mathlib.Core.List.{List, [], _∷_, _++_}
 use mathlib.Core.Bool.{Bool, true, false}
 use mathlib.Core.Logic.{_⊎_, _↔_, _≢_}
 use lib.ListN.{length, take}
-use Rattle.wire.specs.Bytes.{halvesOf}
+use Rattle.wire.specs.Bytes.{halvesOf, pairOf}
 use Rattle.wire.specs.Sum.{checksumOf}
-use Rattle.line.specs.Codes.{ENQ, EOT, ACK, NAK}
+use Rattle.line.specs.Codes.{ENQ, EOT, ACK, NAK, noteOf}
 use Rattle.settings.specs.Limits.{limitsOf}
 use Rattle.settings.specs.Theorems.{Fits}
 use Rattle.line.specs.Line.{underWay, busy, byteOf, tickOf, drainedOf, askOf, withdrawOf, settleOf}
@@ -16,9 +16,11 @@ use Rattle.line.specs.Range.{lineInRange, LineFits}
 use Rattle.line.specs.History.{Call, byte, tick, drained, ask, withdraw, settle, onAsk, comes, none, enquired, left, oursAt, theirsAt, begins, puts, Track, called, answered, next, history}
 use Rattle.line.specs.declared.phase.Phase.{Phase}
 use Rattle.line.specs.declared.phase.Phase.the-variants.{Idle, WaitEot, Draining, WaitAck, WaitLength, Body, Silence}
+use Rattle.line.specs.declared.phase.Fault.the-variants.{Length, Sum}
 use Rattle.line.specs.declared.step.Out.the-variants.{Code, Block}
 use Rattle.line.specs.declared.step.Told.{Told}
 use Rattle.line.specs.declared.step.Told.the-variants as told
+use Rattle.line.specs.declared.step.Remark.{Remark}
 use Rattle.line.specs.declared.step.Remark.the-variants as remark
 use Rattle.line.specs.declared.step.Step.{Step}
 use Rattle.settings.specs.declared.limits.Limits.{Limits}
@@ -180,6 +182,26 @@ pub record NakWhenSilent (c : Limits) (t : Track) : Type 0 where
 
 abbrev pub NakInTime : Type 0
 NakInTime = Always NakWhenSilent
+
+-- Why, by the bytes since our EOT: "and with a NAK 28 no length in T2, 29 gap in body, 30 bad length, 31 bad sum"
+pub data NakFor (bytes : List ℕ) : Remark → Type 0 where
+  -- none came
+  no-length : bytes ≡ [] → NakFor bytes remark.NoLength
+  -- a length came, and not yet the N bytes and their sum
+  gap : (n : ℕ) (after : List ℕ) → bytes ≡ n ∷ after → 10 ≤ n → n ≤ 254 → length after < n + 2 → NakFor bytes remark.Gap
+  -- what came first is no length
+  bad-length : (n : ℕ) (after : List ℕ) → bytes ≡ n ∷ after → (10 ≤ n → n ≤ 254 → ⊥) → NakFor bytes (remark.Bad Length)
+  -- the N bytes came, and two that are not their sum; whatever came behind them
+  bad-sum : (n : ℕ) (body : List ℕ) (high low : ℕ) (rest : List ℕ) → bytes ≡ n ∷ (body ++ (high ∷ low ∷ rest)) → 10 ≤ n → n ≤ 254 → length body ≡ n
+      → pairOf high low ≢ checksumOf body → NakFor bytes (remark.Bad (Sum (pairOf high low) (checksumOf body)))
+
+-- a NAK is remarked with its reason, and nothing else with one
+pub record NakSays (c : Limits) (t : Track) (k : Call) : Type 0 where
+  pub why : puts NAK (answered c t k .step .out) ≡ true → NakFor (t .seen .bytes) (answered c t k .step .remark)
+  pub else-none : puts NAK (answered c t k .step .out) ≡ false → noteOf (answered c t k .step .remark) ≡ 20
+
+abbrev pub NakReasons : Type 0
+NakReasons = Always (λ c t. (k : Call) → NakSays c t k)
 
 -- the bytes since our EOT are a block on the line: "length N (10 to 254), N bytes, then the 16-bit sum of those N bytes, high
 -- byte first"

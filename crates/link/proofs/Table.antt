@@ -30,7 +30,7 @@ refusal-numbers =
       replied = refl;
     }
 
-of-line : (r : Remark) → noteNumber (noteBy r) ≡ noteOf r
+pub of-line : (r : Remark) → noteNumber (noteBy r) ≡ noteOf r
 of-line remark.Nothing = refl
 of-line remark.GaveWay = refl
 of-line remark.NoLength = refl
@@ -53,6 +53,7 @@ note-numbers =
       bad-length = refl;
       bad-sum = λ r c. refl;
       of-line = of-line;
+      same-fault = λ f. refl;
     }
 
 pub proved-table : ProvedTable

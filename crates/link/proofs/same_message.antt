@@ -1,9 +1,11 @@
 pub mod Calls
 pub mod Hears
 pub mod Blocks
+pub mod Reaches
 pub mod Carries
 pub mod Stands
 pub mod Asks
 pub mod Delivers
 pub mod Replies
 pub mod Returns
+pub mod Starts

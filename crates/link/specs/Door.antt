@@ -12,12 +12,20 @@ use Rattle.line.specs.Codes.{ENQ, EOT, ACK, NAK, bytesOut}
 use Rattle.line.specs.History as line
 use Rattle.line.specs.History.{Ours, none, enquired, leaving, left, Seen}
 use Rattle.line.specs.Theorems.{sendLimit, Counts, receiveLimit, patience}
+use Rattle.line.specs.declared.phase.Phase.{Phase}
+use Rattle.line.specs.declared.phase.Phase.the-variants.{Idle, WaitEot, Draining, WaitAck, WaitLength, Body, Silence}
 use Rattle.line.specs.declared.line.Line.{Line}
-use Rattle.exchange.specs.History as exchange
+use Rattle.place.specs.OwnHistory as own
+use Rattle.place.specs.IncomingHistory as incoming
+use Rattle.place.specs.declared.OwnStage.{OwnStage}
+use Rattle.place.specs.declared.OwnStage.the-variants as stage
+use Rattle.place.specs.declared.IncomingStage.{IncomingStage}
+use Rattle.place.specs.declared.IncomingStage.the-variants as arrival
+use Rattle.exchange.specs.Exchange.{ownPlace, incomingPlace}
 use Rattle.link.specs.Answer.{accepted}
 use Rattle.link.specs.Run.{Left, blockBytes}
 use Rattle.link.specs.Reading.{sendingOf}
-use Rattle.link.specs.History.{Call, byte, tick, drained, request, called, Room, lentRoom, Made, cameTo, lineCalls, exchangeCalls, Track, answered, next, atStart}
+use Rattle.link.specs.History.{Call, byte, tick, drained, request, called, Room, lentRoom, Made, lineCalls, Track, answered, next, atStart}
 use Rattle.link.specs.Inside.{Reached}
 use Rattle.link.specs.declared.Outcome.{Outcome}
 use Rattle.link.specs.declared.Outcome.the-variants as outcome
@@ -257,30 +265,73 @@ HeldFollows =
 
 -- ---- ticks
 
-abbrev pub ticksBy : Outcome → line.Call → ℕ
-ticksBy outcome.Done k = line.on k (λ b. 0) 1 0
-ticksBy (outcome.Taken p) k = line.on k (λ b. 0) 1 0
-ticksBy (outcome.Refused r) k = 0
+-- "A timer starts at 0, each later tick adds 1": each timer that runs inside stands at the ticks that are counted outside, one more for each
+-- tick that is not refused, and for no other call. How these counts move: `sees` above and `tried` below, by the calls and by the bytes that
+-- leave; `OwnSeen`, `IncomingSeen` (specs/Moves.antt).
 
-unfoldable pub lineTicks : List line.Call → ℕ
-lineTicks [] = 0
-lineTicks (k ∷ ks) = line.on k (λ b. 0) 1 0 + lineTicks ks
+-- T2, where EOT or ACK is waited for: since our last ENQ, or since the block has left the wire; "Ticks while draining count for no line
+-- timer."
+abbrev pub waitBegins : Ours → ℕ → ℕ
+waitBegins none n = n
+waitBegins enquired n = n
+waitBegins leaving n = 0
+waitBegins left n = n
 
-abbrev pub exchangeTick : exchange.Call → ℕ
-exchangeTick (exchange.block h d) = 0
-exchangeTick exchange.tick = 1
-exchangeTick exchange.acknowledged = 0
-exchangeTick exchange.failed = 0
-exchangeTick (exchange.request r) = 0
+abbrev pub triedAfter : Ours → ℕ → line.Call → List ℕ → ℕ
+triedAfter o n k bs = cond (endsInEnq bs) 0 (line.onDrained k (waitBegins o n) (line.waits o n k))
 
-unfoldable pub exchangeTicks : List exchange.Call → ℕ
-exchangeTicks [] = 0
-exchangeTicks (k ∷ ks) = exchangeTick k + exchangeTicks ks
+abbrev pub triedBy : Outcome → Ours → ℕ → line.Call → List ℕ → ℕ
+triedBy outcome.Done o n k bs = triedAfter o n k bs
+triedBy (outcome.Taken p) o n k bs = triedAfter o n k bs
+triedBy (outcome.Refused r) o n k bs = n
 
--- a tick that is not refused is one tick of the line and one of the transactions, and no other call is
-pub record TicksOnce (u : Link) (room o : List ℕ) (k : Call) : Type 0 where
-  pub line : lineTicks (lineCalls u room o k) ≡ ticksBy (cameTo u room o k) (kind k)
-  pub exchange : exchangeTicks (exchangeCalls u room o k) ≡ ticksBy (cameTo u room o k) (kind k)
+unfoldable pub tried : ℕ → Watch → Track → List Made → ℕ
+tried n w t [] = n
+tried n w t (m ∷ ms) =
+    tried (triedBy (answered t m .answer .outcome) (w .ours) n (kind (m .call)) (bytesLeft (answered t m))) (watches w (m .call) (answered t m)) (next t m) ms
+
+abbrev pub SendTimer : Phase → ℕ → Type 0
+SendTimer Idle n = Unit {0}
+SendTimer (WaitEot timer tries) n = timer ≡ n
+SendTimer (Draining tries) n = Unit {0}
+SendTimer (WaitAck timer tries) n = timer ≡ n
+SendTimer (WaitLength timer) n = Unit {0}
+SendTimer (Body timer a) n = Unit {0}
+SendTimer (Silence timer fault) n = Unit {0}
+
+-- T2 or T1, where a block is received: since our EOT, or since the last byte
+abbrev pub ReceiveTimer : Phase → ℕ → Type 0
+ReceiveTimer Idle silent = Unit {0}
+ReceiveTimer (WaitEot timer tries) silent = Unit {0}
+ReceiveTimer (Draining tries) silent = Unit {0}
+ReceiveTimer (WaitAck timer tries) silent = Unit {0}
+ReceiveTimer (WaitLength timer) silent = timer ≡ silent
+ReceiveTimer (Body timer a) silent = timer ≡ silent
+ReceiveTimer (Silence timer fault) silent = timer ≡ silent
+
+-- T3 since the ACK of the request's last block; T4 since the last block kept
+abbrev pub OwnTimer : OwnStage → own.Seen → Type 0
+OwnTimer stage.Free s = Unit {0}
+OwnTimer stage.Sending s = Unit {0}
+OwnTimer (stage.Awaiting timer) s = timer ≡ s .since
+OwnTimer (stage.Replying a) s = a .timer ≡ s .quiet
+OwnTimer (stage.Done v r) s = Unit {0}
+
+abbrev pub IncomingTimer : IncomingStage → incoming.Seen → Type 0
+IncomingTimer arrival.Free s = Unit {0}
+IncomingTimer (arrival.Open a) s = a .timer ≡ s .quiet
+IncomingTimer (arrival.Complete n) s = Unit {0}
+IncomingTimer (arrival.Replying n) s = Unit {0}
+IncomingTimer (arrival.Replied n e) s = Unit {0}
+
+-- n is what `tried` comes to
+pub record TimersStand (t : Track) (w : Watch) (n : ℕ) : Type 0 where
+  pub sends : SendTimer (t .link .line .phase) n
+  pub receives : ReceiveTimer (t .link .line .phase) (w .silent)
+  pub own : (p : ℕ) → p < 4 → OwnTimer (ownPlace (t .link .exchange) p .stage) (t .own p)
+  pub incoming : (p : ℕ) → p < 4 → IncomingTimer (incomingPlace (t .link .exchange) p .stage) (t .incoming p)
 
 abbrev pub TicksCounted : Type 0
-TicksCounted = (u : Link) (room o : List ℕ) (k : Call) → TicksOnce u room o k
+TicksCounted =
+    (t : Track) (w : Watch) (a : AtDoor t w)
+    → TimersStand t w (tried 0 nothingWatched (atStart (a .reached .settings) (a .reached .setup .last) (a .reached .room)) (a .reached .calls))

@@ -13,5 +13,8 @@ pub mod Verdicts
 pub mod Moves
 pub mod Device
 pub mod Numbers
+pub mod Saved
+pub mod Sends
+pub mod Hearing
 pub mod SameMessage
 pub mod Table

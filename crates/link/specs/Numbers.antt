@@ -2,10 +2,13 @@
 -- keeps "the last given" and "that of the latest own transaction to get a verdict" (01, "Messages"). The onlooker is that of
 -- exchange/specs/Numbers.antt, at the unit's door: it goes by what is called and answered, and by what a user reads of the own places
 -- before and after each call. Each proof is in `proofs/numbers/`.
-use Prim.Native.Nat.{ℕ, _≤_}
+use Prim.Native.Nat.{ℕ, _≤_, _<_}
+use mathlib.Core.Path.{_≡_}
+use mathlib.Core.Bool.{true}
 use mathlib.Core.List.{List, [], _∷_}
+use mathlib.Core.Logic.{_≢_}
 use Rattle.exchange.specs.Request.{Request}
-use Rattle.exchange.specs.Numbers.{numberShown, NumbersSeen, lastBy, latestSeen, numbersAtStart, NumbersAre, NumberNew}
+use Rattle.exchange.specs.Numbers.{numberShown, NumbersSeen, lastBy, latestSeen, numbersAtStart, NumbersAre, inUse, NumberNew}
 use Rattle.exchange.specs.declared.OwnReading.{OwnReading}
 use Rattle.exchange.specs.declared.Primary.{Primary}
 use Rattle.link.specs.Reading.{ownOf}
@@ -48,8 +51,14 @@ abbrev pub NumbersKept : Type 0
 NumbersKept = (t : Track) (w : Reached t) → w .setup .last ≤ 65535 → NumbersAre (t .link .exchange) (numbersSeen t w)
 
 -- So the number that an accepted primary shows is that of no own place in use, nor of the latest own transaction to get a verdict: the
--- first two distinctions of E4 6.8.1.
+-- first two distinctions of E4 6.8.1, of own transactions, with the latest verdict for "completed" (docs/EXCEPTIONS.md).
 abbrev pub NumberDistinct : Type 0
 NumberDistinct =
     (t : Track) (w : Reached t) → w .setup .last ≤ 65535 → (m : Made) (p : ℕ) (q : Primary) → Opens t m p q
     → NumberNew (t .link .exchange) (numbersSeen t w) (numberShown (ownOf (next t m .link) p))
+
+-- And at any time no two own places in use show the same number, whatever verdicts they have: so a reply is for one of them alone.
+abbrev pub PlacesDistinct : Type 0
+PlacesDistinct =
+    (t : Track) (w : Reached t) → w .setup .last ≤ 65535 → (p q : ℕ) → p < 4 → q < 4 → p ≢ q
+    → inUse (ownOf (t .link) p) ≡ true → inUse (ownOf (t .link) q) ≡ true → numberShown (ownOf (t .link) p) ≢ numberShown (ownOf (t .link) q)

@@ -9,6 +9,8 @@ use Rattle.table.specs.Theorems.{NumberTable}
 use Rattle.line.specs.Table.{LimitMet}
 use Rattle.line.specs.Codes.{noteOf}
 use Rattle.line.specs.declared.step.Remark.{Remark}
+use Rattle.line.specs.declared.step.Remark.the-variants as remark
+use Rattle.line.specs.declared.phase.Fault.{Fault}
 use Rattle.line.specs.declared.phase.Fault.the-variants as fault
 use Rattle.exchange.specs.declared.Note.the-variants as block
 use Rattle.exchange.specs.declared.Refusal.the-variants as request
@@ -49,6 +51,8 @@ pub record NoteNumbers : Type 0 where
   pub bad-sum : (received counted : ℕ) → noteNumber (note.Bad (fault.Sum received counted)) ≡ 31
   -- they are the line's own
   pub of-line : (r : Remark) → noteNumber (noteBy r) ≡ noteOf r
+  -- and name the line's fault
+  pub same-fault : (f : Fault) → noteBy (remark.Bad f) ≡ note.Bad f
 
 -- "Proved as a single table, by one statement about the definitions"
 pub record ProvedTable : Type 0 where

@@ -22,7 +22,7 @@ use Rattle.place.specs.declared.Standing.the-variants.{Free, Open, Given}
 use Rattle.room.specs.Room.{bytesIn}
 use Rattle.room.specs.declared.Message.the-variants as message
 use Rattle.exchange.specs.Exchange.{ownPlace, incomingPlace}
-use Rattle.exchange.specs.Reading.{stageBy, hasEnded}
+use Rattle.exchange.specs.Reading.{headerBy, stageBy, hasEnded}
 use Rattle.exchange.specs.Rules.{OfMessage}
 use Rattle.exchange.specs.Theorems.{Reached as ExchangeReached}
 use Rattle.exchange.specs.declared.OwnReading.{OwnReading}
@@ -120,8 +120,8 @@ WholeRead = AtEach (λ t p. (v : Verdict) → onReply v ≡ true → standing t 
 
 -- Where there is no block of one to show (`NoneToShow`, place/specs/OwnTheorems.antt), so behind 1, 5, 6 and 7, zeros are read: with the
 -- two above this is all that is read of a reply, but its bytes.
-abbrev pub NothingRead : Type 0
-NothingRead = AtEach (λ t p. NoneToShow (t .own p) (standing t p) → AllZeros (replyIn (ownOf (t .link) p)))
+abbrev pub NoReplyRead : Type 0
+NoReplyRead = AtEach (λ t p. NoneToShow (t .own p) (standing t p) → AllZeros (replyIn (ownOf (t .link) p)))
 
 -- "After 2, 3 or 4 .. its area begins with the data of the kept blocks joined": so many bytes as these blocks had, and a user reads
 -- them, while the room comes back; its W-bit, stream and function are those of the first of these blocks
@@ -237,11 +237,7 @@ TakesExactly =
     → OfMessage (incomingPlace (t .link .exchange) p) b
     ↔ ((isThere t p ≡ true) × (isComplete t p ≡ false) × Continues (firstOf (t .incoming p .kept)) (length (t .incoming p .kept) + 1) b))
 
--- header and length that are read
-abbrev pub headerBy : IncomingReading → Header
-headerBy arrival.NoPlace = noHeader
-headerBy (arrival.Place h n c r) = h
-
+-- the length that is read
 abbrev pub lengthBy : IncomingReading → ℕ
 lengthBy arrival.NoPlace = 0
 lengthBy (arrival.Place h n c r) = n

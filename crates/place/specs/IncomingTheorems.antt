@@ -9,7 +9,7 @@ use lib.ListN.{length}
 use Rattle.header.specs.declared.header.Header.{Header}
 use Rattle.settings.specs.declared.terms.Terms.{Terms}
 use Rattle.place.specs.Message.{Continues, Whole, firstOf}
-use Rattle.place.specs.Incoming.{primaryOf, incomingLength, incomingTakes, incomingAnswered, incomingSent, incomingFailed, incomingReleased}
+use Rattle.place.specs.Incoming.{primaryOf, incomingLength, incomingIsFree, incomingIsOpen, incomingIsComplete, incomingIsReplied, incomingTakes, incomingAnswered, incomingSent, incomingFailed, incomingReleased}
 use Rattle.place.specs.Range.{incomingInRange}
 use Rattle.place.specs.IncomingHistory.{Event, begin, block, tick, answer, sent, failed, release, Shows, nothing, arriving, complete, replying, replied, shows, step, Seen, Track, track, atStart}
 use Rattle.place.specs.declared.End.{End}
@@ -44,6 +44,20 @@ pub record ShowsExactly (c : Terms) (t : Track) : Type 0 where
 
 abbrev pub CompleteExactly : Type 0
 CompleteExactly = (c : Terms) (t : Track) → Reached c t → ShowsExactly c t
+
+-- The tests by which places are looked for, answered and released, of any place: they say what it shows.
+pub record IncomingTested (i : Incoming) : Type 0 where
+  pub free : (incomingIsFree i ≡ true) ↔ (shows i ≡ nothing)
+  -- "open (not yet complete)"
+  pub open-yet : (incomingIsOpen i ≡ true) ↔ (shows i ≡ arriving)
+  pub unanswered : (incomingIsComplete i ≡ true) ↔ (shows i ≡ complete)
+  -- "even if it failed"
+  pub ended : (incomingIsReplied i ≡ true) ↔ ((e : End) × (shows i ≡ replied e))
+  -- no byte is kept where no message is
+  pub none-kept : shows i ≡ nothing → incomingLength i ≡ 0
+
+abbrev pub IncomingTests : Type 0
+IncomingTests = (i : Incoming) → IncomingTested i
 
 -- "Continues an open message": a block is for this place exactly if it has the number after the last block kept, and all else of them
 abbrev pub TakesExactly : Type 0

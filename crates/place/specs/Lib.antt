@@ -1,6 +1,7 @@
 pub mod Fate
 pub mod Arriving
 pub mod Verdict
+pub mod Table
 pub mod Own
 pub mod Incoming
 pub mod Range

@@ -9,7 +9,7 @@ use lib.ListN.{length}
 use Rattle.header.specs.declared.header.Header.{Header}
 use Rattle.settings.specs.declared.terms.Terms.{Terms}
 use Rattle.place.specs.Message.{Routed, StartsMessage, Continues, LacksData, Whole, firstOf}
-use Rattle.place.specs.Own.{primaryOf, ownStanding, ownKept}
+use Rattle.place.specs.Own.{primaryOf, ownStanding, ownIsFree, ownHasVerdict, ownKept}
 use Rattle.place.specs.Range.{ownInRange}
 use Rattle.place.specs.OwnHistory.{Event, claim, sent, failed, tick, release, block, none, underway, acknowledged, lost, Answer, passed, kept, spoilt, answerTo, Seen, Track, track, atStart, run}
 use Rattle.place.specs.declared.Verdict.{Verdict}
@@ -17,6 +17,7 @@ use Rattle.place.specs.declared.Reply.{Reply}
 use Rattle.place.specs.declared.Verdict.the-variants.{Sent, Answered, Declined, Other, Broken, NoReply, SendFailed}
 use Rattle.place.specs.declared.Standing.{Standing}
 use Rattle.place.specs.declared.Standing.the-variants.{Free, Open, Given}
+use Rattle.place.specs.declared.Own.{Own}
 
 -- what any events at a fresh place leave
 pub record Reached (c : Terms) (t : Track) : Type 0 where
@@ -73,6 +74,14 @@ VerdictExactly = (c : Terms) (t : Track) → Reached c t → (v : Verdict) → (
 -- It is free exactly when no request is in it: none was accepted since the last release.
 abbrev pub FreeExactly : Type 0
 FreeExactly = (c : Terms) (t : Track) → Reached c t → (ownStanding (t .own) ≡ Free) ↔ (t .seen .request ≡ none)
+
+-- The two tests by which places are looked for and released, of any place: they say what it shows.
+pub record OwnTested (o : Own) : Type 0 where
+  pub free : (ownIsFree o ≡ true) ↔ (ownStanding o ≡ Free)
+  pub given : (ownHasVerdict o ≡ true) ↔ ((v : Verdict) × (ownStanding o ≡ Given v))
+
+abbrev pub OwnTests : Type 0
+OwnTests = (o : Own) → OwnTested o
 
 -- 2, 3 and 4: the verdicts on a whole reply
 abbrev pub onReply : Verdict → Bool

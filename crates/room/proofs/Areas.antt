@@ -1,5 +1,5 @@
 -- Where the areas lie, and what lies in the room (`specs/Room.antt`). Assumes nothing.
-use Prim.Native.Nat.{ℕ, _+_, _≤_, _<_}
+use Prim.Native.Nat.{ℕ, _+_, _-_, _≤_, _<_}
 use mathlib.Core.Path.{_≡_, refl, sym, ap, _∙_}
 use mathlib.Core.Bool.{Bool, true}
 use mathlib.Core.List.{List}
@@ -8,22 +8,27 @@ use native.Mathlib.Omega.{arith}
 use lib.Dec.{ltb}
 use lib.ListN.{length}
 use borrow.Author.Tests.{ltb-true, ltb-false, leb-true, eqb-true, lt-ltb, le-leb, eq-eqb}
+use Rattle.wire.specs.Bytes.{part}
 use Rattle.wire.proofs.Choice.{either, three}
-use Rattle.room.specs.Room.{area, placeOf, startOf, wholeRoom, hasPlace, inArea, lies}
-use Rattle.room.specs.Theorems.{AreasInOrder, Lies, LiesExactly}
+use Rattle.room.specs.Room.{area, placeOf, startOf, wholeRoom, hasPlace, inArea, lies, front}
+use Rattle.room.specs.Theorems.{AreasInOrder, Lies, LiesExactly, FrontInRoom}
 use Rattle.room.specs.declared.Message.{Message}
 use Rattle.room.specs.declared.Message.the-variants.{Reply, Incoming, Send}
 
 pub areas-in-order : AreasInOrder
 areas-in-order = record { starts = refl; ends = refl }
 
+pub front-in-room : FrontInRoom
+unfolding front part
+front-in-room room m n = let size : startOf m + n - startOf m ≡ n = omega arith in rw size
+
 pub lies-exactly : LiesExactly
 unfolding lies wholeRoom hasPlace inArea
 lies-exactly room m o n = (
   λ e.
       let w = three (wholeRoom room) (hasPlace m) (inArea o n) .0 e in
-      record { whole = eqb-true (length room) 36864 (w .0); place = ltb-true (placeOf m) 4 (w .1); within = leb-true (o + n) area (w .2) },
-  λ l. three (wholeRoom room) (hasPlace m) (inArea o n) .1 (eq-eqb (length room) 36864 (l .whole), lt-ltb (placeOf m) 4 (l .place), le-leb (o + n) area (l .within)),
+      record { whole = eqb-true (length room) 36864 (w .0); place = ltb-true (placeOf m) 4 (w .1); within = leb-true (o + n) 4096 (w .2) },
+  λ l. three (wholeRoom room) (hasPlace m) (inArea o n) .1 (eq-eqb (length room) 36864 (l .whole), lt-ltb (placeOf m) 4 (l .place), le-leb (o + n) 4096 (l .within)),
 )
 
 -- an area ends within the room

@@ -12,19 +12,14 @@ use Rattle.wire.proofs.Parts.{part-length, part-of-take, part-of-drop}
 use Rattle.room.specs.Room.{startOf, lies, keptIn, bytesAt, bytesIn, front}
 use Rattle.room.specs.Theorems.{Lies, FrontLength, FrontOfFront, BytesRead, FrontRead, NothingRead, KeptIsRead}
 use Rattle.room.specs.declared.Message.{Message}
-use Rattle.room.proofs.Areas.{lies-exactly, area-end, lies-end}
+use Rattle.room.proofs.Areas.{front-in-room, lies-exactly, area-end, lies-end}
 use Rattle.room.proofs.Keeping.{keep-joins, keeps-only}
 
--- the first n bytes of a message, from its area's start on
-front-is : (room : List ℕ) (m : Message) (n : ℕ) → front room m n ≡ take n (drop (startOf m) room)
-unfolding front part
-front-is room m n = let size : startOf m + n - startOf m ≡ n = omega arith in rw size
-
 pub front-length : FrontLength
-front-length room m n whole place short = rw (front-is room m n) (simp (length-take, length-drop) (omega (arith, area-end m place)))
+front-length room m n whole place short = rw (front-in-room room m n) (simp (length-take, length-drop) (omega (arith, area-end m place)))
 
 pub front-of-front : FrontOfFront
-front-of-front room m n k shorter short = rw (front-is room m k, front-is room m n) (take-take n k (drop (startOf m) room) shorter)
+front-of-front room m n k shorter short = rw (front-in-room room m k, front-in-room room m n) (take-take n k (drop (startOf m) room) shorter)
 
 -- what holds of the bytes, where they lie in the room, and of none, where not, holds of what is read
 by-reading : (room : List ℕ) (m : Message) (o n : ℕ) (P : List ℕ → Type 0)
@@ -47,7 +42,7 @@ bytes-read room m o n l = record {
         let at : startOf m + o + n ≡ startOf m + (o + n) = omega arith in
         let fits : o + n ≤ length (drop (startOf m) room) = omega (arith, length-drop (startOf m) room, lies-end room m o n l) in
         ap (λ (e : ℕ). part (startOf m + o) e room) at ∙ sym (part-of-drop (startOf m) o (o + n) room)
-        ∙ sym (part-of-take k o (o + n) (drop (startOf m) room) (omega arith) within fits) ∙ ap (part o (o + n)) (sym (front-is room m k))
+        ∙ sym (part-of-take k o (o + n) (drop (startOf m) room) (omega arith) within fits) ∙ ap (part o (o + n)) (sym (front-in-room room m k))
 
 -- no bytes are none, wherever they are asked for
 pub none-of : (room : List ℕ) (m : Message) (o : ℕ) → bytesIn room m o 0 ≡ []

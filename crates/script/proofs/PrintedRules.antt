@@ -1,67 +1,74 @@
 -- What is printed in hex reads back, and what is printed is one line. Assumes nothing.
-use Prim.Native.Nat.{ℕ, zero, suc, _+_, _-_, _/_, _%_, _≤_, _<_}
-use mathlib.Core.Path.{_≡_, refl, _∙_}
-use mathlib.Core.Bool.{true}
+use Prim.Native.Nat.{ℕ, zero, suc, _+_, _-_, _*_, _/_, _%_, _≤_, _<_}
+use mathlib.Core.Path.{_≡_, refl, subst}
 use mathlib.Core.List.{List, [], _∷_, _++_, append-assoc}
 use mathlib.Core.Logic.{_⊎_, inl, inr}
 use native.Mathlib.Omega.{arith}
 use lib.Dec.{ltb}
 use lib.ListN.{length, getD}
-use borrow.Author.Tests.{le-ltb, ne-eqb, ltb-true, ltb-false}
+use borrow.Author.Tests.{ltb-true, ltb-false}
 use Rattle.wire.specs.Bytes.{Bytes}
 use Rattle.wire.proofs.Choice.{chosen}
-use Rattle.text.specs.Hex.{areDigits, byteOf, dataOf, digitOf, isData}
-use Rattle.text.proofs.HexRules.{digit-low, digit-upper}
+use Rattle.text.specs.Theorems.{HexSays, TextSays}
+use Rattle.text.specs.Theorems as read
+use Rattle.text.proofs.HexRules.{bytes-said}
 use Rattle.script.specs.Hex.{glyphOf, hexOf}
 use Rattle.script.specs.Printed.{dataField, dataText, numberField, numberText}
-use Rattle.script.specs.PrintedRules.{LinesExactly, NumberPlain, DataReads, HexReads, LineEnds, OneLine}
+use Rattle.script.specs.PrintedRules.{LinesExactly, NumberPlain, DataReads, HexReads, UpperDigit, decimal, letter, UpperHex, no-more, one-more, HexUpper, DataPrinted, dash, digits, DataUpper, LineEnds, OneLine}
+use Rattle.script.specs.Lines.{DataIn, no-data, some-data}
 use Rattle.script.specs.declared.Printed.the-variants.{Answer, Verdict, Unreadable}
-use Rattle.script.proofs.Printing.{hex-length}
-
--- a printed digit has its value
-digit-back : (d : ℕ) → d < 16 → digitOf (glyphOf d) ≡ d
-unfolding glyphOf
-digit-back d h =
-    chosen (λ (g : ℕ). digitOf g ≡ d) (ltb d 10) (48 + d) (55 + d)
-    (λ e. let low = ltb-true d 10 e in digit-low (48 + d) (omega arith) (omega arith) ∙ omega arith)
-    (λ e. let high = ltb-false d 10 e in digit-upper (55 + d) (omega arith) (omega arith) ∙ omega arith)
-
--- the two digits of a byte say it
-byte-back : (b : ℕ) → b < 256 → byteOf (glyphOf (b / 16)) (glyphOf (b % 16)) ≡ b
-unfolding byteOf
-byte-back b h = rw (digit-back (b / 16) (omega arith), digit-back (b % 16) (omega arith)) (omega arith)
+use Rattle.script.proofs.Fields.{data-is, data-said}
 
 -- the bytes behind the first
 rest : (b : ℕ) (bs : List ℕ) → Bytes (b ∷ bs) → Bytes bs
 rest b bs h = record { at = λ i. h .at (suc i) }
 
-hex-says : (bs : List ℕ) → Bytes bs → dataOf (hexOf bs) ≡ bs
-unfolding hexOf dataOf
-hex-says [] h = refl
-hex-says (b ∷ bs) h = λ k. byte-back b (h .at 0) k ∷ hex-says bs (rest b bs h) k
+-- the digit of a value, whichever it is
+upper-digit : (d : ℕ) → d < 16 → UpperDigit (glyphOf d) d
+unfolding glyphOf
+upper-digit d h =
+    chosen (λ (g : ℕ). UpperDigit g d) (ltb d 10) _ _ (λ e. decimal d (ltb-true d 10 e))
+    (λ e.
+    let high = ltb-false d 10 e in
+    let is : UpperDigit (0x41 + (d - 10)) (10 + (d - 10)) = letter (d - 10) (omega arith) in
+    let value : 10 + (d - 10) ≡ d = omega arith in
+    subst (λ (g : ℕ). UpperDigit g d) (omega arith) (subst (UpperDigit (0x41 + (d - 10))) value is))
 
-hex-digits : (bs : List ℕ) → Bytes bs → areDigits (hexOf bs) ≡ true
-unfolding hexOf areDigits
-hex-digits [] h = refl
-hex-digits (b ∷ bs) h =
+pub hex-upper : HexUpper
+unfolding hexOf
+hex-upper [] h = no-more
+hex-upper (b ∷ bs) h =
     let byte : b < 256 = h .at 0 in
-    rw (digit-back (b / 16) (omega arith), digit-back (b % 16) (omega arith), le-ltb 15 (b / 16) (omega arith), le-ltb 15 (b % 16) (omega arith)) (hex-digits bs (rest b bs h))
+    let value : b / 16 * 16 + b % 16 ≡ b = omega arith in
+    subst (λ (v : ℕ). UpperHex (hexOf (b ∷ bs)) (v ∷ bs)) value
+    (one-more _ _ (b / 16) (b % 16) _ bs (upper-digit (b / 16) (omega arith)) (upper-digit (b % 16) (omega arith)) (hex-upper bs (rest b bs h)))
 
-hex-is-data : (bs : List ℕ) → Bytes bs → (length bs ≡ 0 → ⊥) → isData (hexOf bs) ≡ true
-unfolding isData
-hex-is-data bs h some =
-    let size = hex-length bs in
-    rw
-    (ne-eqb (length (hexOf bs)) 0 (λ e. some (omega arith)), ne-eqb (length (hexOf bs)) 1 (λ e. omega arith), ne-eqb (length (hexOf bs) % 2) 1 (λ e. omega arith))
-    (hex-digits bs h)
+-- bytes that are printed are said
+upper-says : {x a : ℕ} → UpperDigit x a → HexSays x a
+upper-says (decimal d h) = read.decimal d h
+upper-says (letter d h) = read.upper d h
+
+upper-text : {text bs : List ℕ} → UpperHex text bs → TextSays text bs
+upper-text no-more = read.no-more
+upper-text (one-more x y a b text bs p q r) = read.one-more x y a b text bs (upper-says p) (upper-says q) (upper-text r)
+
+pub data-upper : DataUpper
+data-upper [] h = dash
+data-upper (b ∷ bs) h = digits _ (b ∷ bs) (omega arith) (hex-upper (b ∷ bs) h)
+
+printed-in : {text bs : List ℕ} → DataPrinted text bs → DataIn text bs
+printed-in dash = no-data
+printed-in (digits text bs some h) = some-data text bs some (upper-text h)
+
+pub data-written : (bs : List ℕ) → Bytes bs → DataIn (dataText bs) bs
+data-written bs h = printed-in (data-upper bs h)
 
 pub hex-reads : HexReads
-hex-reads bs h = (hex-says bs h, hex-is-data bs h)
+hex-reads bs h =
+    let says = upper-text (hex-upper bs h) in (bytes-said .said (hexOf bs) bs says, λ some. data-is (some-data (hexOf bs) bs (omega arith) says))
 
 pub data-reads : DataReads
-unfolding dataOf isData
-data-reads [] h = (refl, refl)
-data-reads (b ∷ bs) h = (hex-says (b ∷ bs) h, hex-is-data (b ∷ bs) h (λ e. omega arith))
+data-reads bs h = let is = data-written bs h in (data-said is, data-is is)
 
 -- every byte is a space or above it
 data Plain : List ℕ → Type 0 where

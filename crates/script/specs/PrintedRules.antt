@@ -1,5 +1,5 @@
 -- What is proved of the printed lines, over all inputs. Each proof is in `proofs/PrintedRules.antt`.
-use Prim.Native.Nat.{ℕ, _<_}
+use Prim.Native.Nat.{ℕ, _+_, _*_, _≤_, _<_}
 use mathlib.Core.Path.{_≡_}
 use mathlib.Core.Bool.{true}
 use mathlib.Core.List.{List, [], _∷_, _++_}
@@ -19,6 +19,29 @@ HexReads = (bs : List ℕ) → Bytes bs → (dataOf (hexOf bs) ≡ bs) × ((leng
 -- and so does what is printed for any bytes, `-` for none among it
 abbrev pub DataReads : Type 0
 DataReads = (bs : List ℕ) → Bytes bs → (dataOf (dataText bs) ≡ bs) × (isData (dataText bs) ≡ true)
+
+-- the digits as they are printed: 0 to 9, A to F (docs/READINGS.md, 27: "printed in upper case")
+pub data UpperDigit : ℕ → ℕ → Type 0 where
+  decimal : (d : ℕ) → d < 10 → UpperDigit (0x30 + d) d
+  letter : (d : ℕ) → d < 6 → UpperDigit (0x41 + d) (10 + d)
+
+-- two of them for each byte, the higher first
+pub data UpperHex : List ℕ → List ℕ → Type 0 where
+  no-more : UpperHex [] []
+  one-more :
+      (x y a b : ℕ) (text bs : List ℕ) → UpperDigit x a → UpperDigit y b → UpperHex text bs → UpperHex (x ∷ y ∷ text) ((a * 16 + b) ∷ bs)
+
+-- "bytes out in hex": whichever bytes they are
+abbrev pub HexUpper : Type 0
+HexUpper = (bs : List ℕ) → Bytes bs → UpperHex (hexOf bs) bs
+
+-- "bytes out in hex or `-`": the field of an answer, whichever bytes they are
+pub data DataPrinted : List ℕ → List ℕ → Type 0 where
+  dash : DataPrinted (0x2D ∷ []) []
+  digits : (text bs : List ℕ) → 1 ≤ length bs → UpperHex text bs → DataPrinted text bs
+
+abbrev pub DataUpper : Type 0
+DataUpper = (bs : List ℕ) → Bytes bs → DataPrinted (dataText bs) bs
 
 -- a text that ends with a newline, and has none before
 pub record OneLine (text : List ℕ) : Type 0 where

@@ -1,6 +1,6 @@
--- What is proved of reading a line, over all inputs: `specs/Command.antt` says what 01 says, and what is printed for a number is one.
--- Each proof is in `proofs/ReadingRules.antt`. That fields, numbers and bytes are read exactly if a text says them is proved in crate
--- `text`.
+-- What is proved of reading a line, over all inputs: `specs/Command.antt` says what 01 says, and what is printed for a number is one. The
+-- proofs are in `proofs/ReadingRules.antt` and `proofs/Lines.antt`. Which lines are read as what is `specs/Lines.antt`; that fields, numbers
+-- and bytes are read exactly if a text says them is proved in crate `text`.
 use Prim.Native.Nat.{ℕ, _<_}
 use mathlib.Core.Path.{_≡_}
 use mathlib.Core.List.{List}

@@ -8,7 +8,7 @@ use borrow.Author.Tests.{le-leb, leb-true, eq-eqb, eqb-true}
 use Rattle.wire.proofs.Choice.{judged, both, three}
 use Rattle.settings.specs.Panel.{between, secondsInRange}
 use Rattle.settings.specs.Terms.{messagePanelInRange, termsOf, agreedOf, agreedNumber, termsInRange}
-use Rattle.settings.specs.Theorems.{FitsTerms, TermsInRange}
+use Rattle.settings.specs.Theorems.{FitsTerms, TermsInRange, termsInTicks}
 use Rattle.settings.proofs.Panels.{in-between}
 use Rattle.settings.proofs.Taking.{zero-four}
 use Rattle.settings.specs.declared.terms.MessagePanel.{MessagePanel}
@@ -52,7 +52,7 @@ in-range p f =
 pub terms-in-range : TermsInRange
 terms-in-range p =
     record {
-      taken = λ f. by-terms p (λ t. t ≡ agreed.Terms (termsOf p)) (λ _. refl) (λ n. absurd (n f));
+      taken = λ f. by-terms p (λ t. t ≡ agreed.Terms (termsInTicks p)) (λ _. refl) (λ n. absurd (n f));
       four = by-terms p (λ t. agreedNumber t ≡ 4 ↔ (FitsTerms p → ⊥)) (λ f. (λ e. absurd (zero-four e), λ n. absurd (n f))) (λ n. (λ e. n, λ _. refl));
       in-range = in-range p;
       check = (eqb-true (p .duplicates) 1, eq-eqb (p .duplicates) 1);

@@ -9,7 +9,7 @@ use borrow.Author.Tests.{le-leb, leb-true}
 use Rattle.wire.proofs.Choice.{judged, three}
 use Rattle.settings.specs.Panel.{between, tenthsInRange, fifthsInRange}
 use Rattle.settings.specs.Limits.{panelInRange, limitsOf, takenOf, takenNumber, limitsInRange}
-use Rattle.settings.specs.Theorems.{Fits, TakenInRange}
+use Rattle.settings.specs.Theorems.{Fits, TakenInRange, limitsInTicks}
 use Rattle.settings.proofs.Panels.{in-between}
 use Rattle.settings.specs.declared.limits.Panel.{Panel}
 use Rattle.settings.specs.declared.limits.Taken.{Taken}
@@ -42,7 +42,7 @@ zero-four e = omega arith
 pub taken-in-range : TakenInRange
 taken-in-range p =
     record {
-      taken = λ f. by-fits p (λ t. t ≡ taken.Limits (limitsOf p)) (λ _. refl) (λ n. absurd (n f));
+      taken = λ f. by-fits p (λ t. t ≡ taken.Limits (limitsInTicks p)) (λ _. refl) (λ n. absurd (n f));
       four = by-fits p (λ t. takenNumber t ≡ 4 ↔ (Fits p → ⊥)) (λ f. (λ e. absurd (zero-four e), λ n. absurd (n f))) (λ n. (λ e. n, λ _. refl));
       in-range = in-range p;
     }

@@ -34,4 +34,4 @@ within limit (suc n) h = ap (again limit) (within limit n (omega arith)) ∙ run
 
 pub timer-runs-out : TimerRunsOut
 unfolding afterTicks
-timer-runs-out = (within, λ limit. ap (again limit) (within limit (limit .0) (omega arith)) ∙ runs-out limit (limit .0) (omega arith))
+timer-runs-out = (within, λ limit. ap (again limit) (within limit (limit .0) (omega arith)) ∙ runs-out limit (limit .0) (omega arith), runs-out)

@@ -3,6 +3,7 @@ use Prim.Native.Nat.{ℕ, suc, zero, _*_, _≤_}
 use mathlib.Core.Path.{_≡_}
 use mathlib.Core.Bool.{true}
 use mathlib.Core.Logic.{_↔_}
+use lib.Dec.{eqb}
 use Rattle.settings.specs.Panel.{tenthsTicks, fifthsTicks, secondsTicks, tenthsInRange, fifthsInRange, secondsInRange}
 use Rattle.settings.specs.Timer.{ticked}
 use Rattle.settings.specs.Limits.{limitsOf, takenOf, takenNumber, limitsInRange}
@@ -12,8 +13,10 @@ use Rattle.settings.specs.declared.panel.Fifths.{Fifths}
 use Rattle.settings.specs.declared.panel.Seconds.{Seconds}
 use Rattle.settings.specs.declared.panel.Ticks.{Ticks}
 use Rattle.settings.specs.declared.limits.Panel.{Panel}
+use Rattle.settings.specs.declared.limits.Limits.{Limits}
 use Rattle.settings.specs.declared.limits.Taken.the-variants as taken
 use Rattle.settings.specs.declared.terms.MessagePanel.{MessagePanel}
+use Rattle.settings.specs.declared.terms.Terms.{Terms}
 use Rattle.settings.specs.declared.terms.Agreed.the-variants as agreed
 use Rattle.settings.specs.declared.timer.Timer.{Timer}
 use Rattle.settings.specs.declared.timer.Timer.the-variants.{RunsOut, Runs}
@@ -44,6 +47,8 @@ abbrev pub TimerRunsOut : Type 0
 TimerRunsOut =
     ((limit : Ticks) (n : ℕ) → n ≤ limit .0 → afterTicks limit n ≡ Runs n)
     × ((limit : Ticks) → afterTicks limit (suc (limit .0)) ≡ RunsOut)
+    -- one that was set beyond its limit, which none comes to that was started, runs out on the next
+    × ((limit : Ticks) (timer : ℕ) → limit .0 ≤ timer → ticked limit timer ≡ RunsOut)
 
 -- the ranges of 01's table for the line's settings
 pub record Fits (p : Panel) : Type 0 where
@@ -53,10 +58,14 @@ pub record Fits (p : Panel) : Type 0 where
   pub t2-most : p .t2 .0 ≤ 125
   pub rty-most : p .rty ≤ 31
 
+-- "The unit counts ticks of 0.1 s": steps of T1 are 0.1 s, of T2 0.2 s
+abbrev pub limitsInTicks : Panel → Limits
+limitsInTicks p = record { t1 = record { 0 = p .t1 .0 }; t2 = record { 0 = p .t2 .0 * 2 }; rty = p .rty; master = p .master }
+
 -- refusal 4, "setting out of range", is given exactly when one is; else the settings are taken, in ticks, and in the ranges of
 -- docs/STATE.md
 pub record SettingsTaken (p : Panel) : Type 0 where
-  pub taken : Fits p → takenOf p ≡ taken.Limits (limitsOf p)
+  pub taken : Fits p → takenOf p ≡ taken.Limits (limitsInTicks p)
   pub four : takenNumber (takenOf p) ≡ 4 ↔ (Fits p → ⊥)
   pub in-range : Fits p → limitsInRange (limitsOf p) ≡ true
 
@@ -72,10 +81,20 @@ pub record FitsTerms (p : MessagePanel) : Type 0 where
   pub device-most : p .device ≤ 32767
   pub check-most : p .duplicates ≤ 1
 
+-- steps of T3 and T4 are 1 s; "duplicate check on/off 0, 1"
+abbrev pub termsInTicks : MessagePanel → Terms
+termsInTicks p = record {
+  t3 = record { 0 = p .t3 .0 * 10 };
+  t4 = record { 0 = p .t4 .0 * 10 };
+  device = p .device;
+  duplicates = eqb (p .duplicates) 1;
+  host = p .host;
+}
+
 -- refusal 4 again: given exactly when one of these is out of range; else they are taken, in ticks, and in the ranges of
 -- docs/STATE.md
 pub record TermsTaken (p : MessagePanel) : Type 0 where
-  pub taken : FitsTerms p → agreedOf p ≡ agreed.Terms (termsOf p)
+  pub taken : FitsTerms p → agreedOf p ≡ agreed.Terms (termsInTicks p)
   pub four : agreedNumber (agreedOf p) ≡ 4 ↔ (FitsTerms p → ⊥)
   pub in-range : FitsTerms p → termsInRange (termsOf p) ≡ true
   -- "duplicate check on/off 0, 1"

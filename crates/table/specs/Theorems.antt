@@ -119,11 +119,11 @@ pub record Given (os : List Own) (last latest m : ℕ) : Type 0 where
 abbrev pub NumberGiven : Type 0
 NumberGiven = (os : List Own) (last latest : ℕ) → length os ≡ 4 → last ≤ 65535 → Given os last latest (nextNumber os last latest)
 
--- The first two of E4 6.8.1: "The system bytes of a primary message must be distinct from"
+-- The first two of E4 6.8.1, as docs/EXCEPTIONS.md has them: "The system bytes of a primary message must be distinct from"
 pub record Distinct (os : List Own) (latest system : ℕ) : Type 0 where
   -- "those of all currently open transactions initiated from the same end": of every own place in use, one with a verdict too
   pub from-open : (p : ℕ) → p < 4 → ownIsFree (ownAt os p) ≡ false → system ≡ ownPrimary (ownAt os p) .system → ⊥
-  -- "those of the most recently completed transaction", whatever its source was
+  -- "those of the most recently completed transaction": of the latest own one to get a verdict, whatever its source was
   pub from-latest : system % 65536 ≡ latest → ⊥
 
 -- "System bytes: the caller's 16-bit source ID, then the number."

@@ -4,9 +4,7 @@ use mathlib.Core.Bool.{Bool, true, false, cond}
 use mathlib.Core.List.{List}
 use lib.Dec.{eqb}
 use lib.ListN.{take, replicate}
-use Rattle.place.specs.Verdict.{verdictNumber}
-use Rattle.place.specs.declared.Standing.{Standing}
-use Rattle.place.specs.declared.Standing.the-variants as standing
+use Rattle.place.specs.Verdict.{standingNumber}
 use Rattle.exchange.specs.declared.OwnReading.{OwnReading}
 use Rattle.exchange.specs.declared.OwnReading.the-variants as own
 use Rattle.link.specs.Answer.{outcomeNumber}
@@ -18,6 +16,7 @@ use Rattle.link.specs.declared.Answer.{Answer}
 use Rattle.link.specs.declared.Link.{Link}
 use Rattle.link.specs.declared.Setup.{Setup}
 use Rattle.script.specs.Command.{Told, lineRead}
+use Rattle.script.specs.Printed.{textOf}
 use Rattle.script.specs.declared.Command.{Command}
 use Rattle.script.specs.declared.Command.the-variants as command
 use Rattle.script.specs.declared.Printed.{Printed}
@@ -59,12 +58,6 @@ nothingStarted = benchOf false (startOf (record {
 -- `?`, and all is as it was
 abbrev pub unreadShown : Bench → Shown
 unreadShown b = shownAs b printed.Unreadable 0
-
--- the number of a verdict: "0 open"
-abbrev pub standingNumber : Standing → ℕ
-standingNumber standing.Free = 0
-standingNumber standing.Open = 0
-standingNumber (standing.Given v) = verdictNumber v
 
 -- "`V` place prints V, place, verdict, or `9 - 20` for a free place or one above 3."
 abbrev pub verdictBy : OwnReading → ℕ → Printed
@@ -118,3 +111,7 @@ toldDone b t room out = cond (b .started) (commandDone (b .link) (t .command) (t
 -- Does what a line says.
 unfoldable pub lineDone : Bench → List ℕ → List ℕ → List ℕ → Done
 lineDone b line room out = toldDone b (lineRead line (replicate 512 0)) room out
+
+-- what is printed for it
+abbrev pub textDone : Done → List ℕ
+textDone d = textOf (d .shown .printed) (take (d .shown .count) (d .out))

@@ -2,3 +2,8 @@ pub mod Run
 pub mod Answer
 pub mod Listing
 pub mod Round
+pub mod Lines
+pub mod Each
+pub mod Reached
+pub mod Started
+pub mod Output

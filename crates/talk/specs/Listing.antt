@@ -2,9 +2,8 @@
 use Prim.Native.Nat.{ℕ}
 use mathlib.Core.Path.{_≡_}
 use mathlib.Core.List.{List, [], _∷_, _++_}
-use lib.ListN.{take, replicate}
-use Rattle.script.specs.Printed.{textOf}
-use Rattle.talk.specs.Answer.{Done, done, unreadShown, nothingStarted, lineDone}
+use lib.ListN.{replicate}
+use Rattle.talk.specs.Answer.{Done, done, unreadShown, nothingStarted, lineDone, textDone}
 
 -- the lines so far: what the last one came to, and what was printed for each
 pub record Talk : Type 0 where
@@ -12,7 +11,7 @@ pub record Talk : Type 0 where
   pub printed : List (List ℕ)
 
 abbrev pub talkOn : List (List ℕ) → Done → Talk
-talkOn before d = record { now = d; printed = before ++ (textOf (d .shown .printed) (take (d .shown .count) (d .out)) ∷ []) }
+talkOn before d = record { now = d; printed = before ++ (textDone d ∷ []) }
 
 -- one line more
 abbrev pub talk : Talk → List ℕ → Talk

@@ -112,7 +112,10 @@ front-put out p bs n e fits =
 pub puts-all-or-nothing : PutsAllOrNothing
 unfolding part
 puts-all-or-nothing l i bs = record {
-  there = λ fits. ap (part i (i + length bs)) (put-fits l i bs fits) ∙ part-joined l i bs fits i (omega arith) ∙ ap (λ (n : ℕ). take n (drop i l) ++ bs) (sub-self i);
+  there = λ fits.
+      let whole : length bs ≡ i + length bs - i = omega arith in
+      ap (λ (n : ℕ). take n (drop i (putAt l i bs))) whole ∙ ap (part i (i + length bs)) (put-fits l i bs fits)
+      ∙ part-joined l i bs fits i (omega arith) ∙ ap (λ (n : ℕ). take n (drop i l) ++ bs) (sub-self i);
   before = λ fits. ap (take i) (put-fits l i bs fits) ∙ splice-below l i bs fits i (omega arith);
   behind = λ fits. ap (drop (i + length bs)) (put-fits l i bs fits) ∙ splice-above l i bs fits (i + length bs) (omega arith);
   no-room = put-none l i bs;

@@ -3,7 +3,7 @@ use Prim.Native.Nat.{ℕ, _+_, _*_, _%_, _≤_, _<_}
 use mathlib.Core.Path.{_≡_}
 use mathlib.Core.List.{List, [], _∷_, _++_}
 use lib.ListN.{length, take, drop}
-use Rattle.wire.specs.Bytes.{Bytes, part, pairOf, halvesOf, quadOf, quartersOf}
+use Rattle.wire.specs.Bytes.{Bytes, pairOf, halvesOf, quadOf, quartersOf}
 use Rattle.wire.specs.Lent.{putAt, filledWith}
 use Rattle.wire.specs.Sum.{plainSum, checksumOf, sumWith}
 
@@ -44,7 +44,7 @@ SumAdds = (s b : ℕ) → sumWith s b ≡ (s + b) % 65536
 -- bytes to be put from index i on: where they have room they stand there then, and all before and behind them is as it was;
 -- where they have none, every byte is as it was
 pub record PutWhole (l : List ℕ) (i : ℕ) (bs : List ℕ) : Type 0 where
-  pub there : i + length bs ≤ length l → part i (i + length bs) (putAt l i bs) ≡ bs
+  pub there : i + length bs ≤ length l → take (length bs) (drop i (putAt l i bs)) ≡ bs
   pub before : i + length bs ≤ length l → take i (putAt l i bs) ≡ take i l
   pub behind : i + length bs ≤ length l → drop (i + length bs) (putAt l i bs) ≡ drop (i + length bs) l
   pub no-room : length l < i + length bs → putAt l i bs ≡ l

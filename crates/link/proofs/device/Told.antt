@@ -150,13 +150,13 @@ few-told t m = by-outcome t m Few (λ a. few-on (t .link) (m .call)) (λ r. devi
 -- ---- ACK
 
 module _ (t : Track) (w : Reached t) where
-  ack-came : (k : Call) → stepIn (t .link) k .step .told ≡ told.Sent → (comes ACK k ≡ true) × (t .seen .ours ≡ line.left)
+  pub ack-came : (k : Call) → stepIn (t .link) k .step .told ≡ told.Sent → (comes ACK k ≡ true) × (t .seen .ours ≡ line.left)
   ack-came (byte b fits) e = let z = send-ends-by (limitsIn t) (lineTrack t) (line-inside t w) (line.byte b fits) .sent e in (z .1, z .0)
   ack-came tick e = absurd (ticks-tell (limitsIn t) (t .link .line) .not-sent e)
   ack-came drained e = absurd (false≢true cc)
   ack-came (request r) e = absurd (false≢true cc)
 
-  ack-tells : (k : Call) → comes ACK k ≡ true → t .seen .ours ≡ line.left → stepIn (t .link) k .step .told ≡ told.Sent
+  pub ack-tells : (k : Call) → comes ACK k ≡ true → t .seen .ours ≡ line.left → stepIn (t .link) k .step .told ≡ told.Sent
   ack-tells (byte b fits) i o = ack-means-sent (limitsIn t) (lineTrack t) (line-inside t w) o (line.byte b fits) i
   ack-tells tick i o = absurd (false≢true i)
   ack-tells drained i o = absurd (false≢true i)

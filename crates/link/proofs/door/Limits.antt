@@ -41,7 +41,7 @@ limits-stay : (t : Track) (w : Reached t) → limitsIn t ≡ w .settings .limits
 limits-stay t w = ap (λ (s : Settings). s .limits) (settings-stay t w)
 
 -- what holds of what the line's onlooker has seen holds of what is seen at the door
-from-line : (P : Limits → Watch → Type 0) (t : Track) (w : Watch) (a : AtDoor t w) → P (limitsIn t) (watchOf (t .seen)) → P (a .reached .settings .limits) w
+pub from-line : (P : Limits → Watch → Type 0) (t : Track) (w : Watch) (a : AtDoor t w) → P (limitsIn t) (watchOf (t .seen)) → P (a .reached .settings .limits) w
 from-line P t w a g = subst (P (a .reached .settings .limits)) (sym (door-right t w a)) (subst (λ c. P c (watchOf (t .seen))) (limits-stay t (a .reached)) g)
 
 -- ---- a block of ours
@@ -80,7 +80,7 @@ unfolding lineBytes
 whole-alone c l rs block o ks is = rw is (append-nil block)
 
 -- a call that is not refused makes its calls on the line
-unrefused : (x : Outcome) (ks : List line.Call) → accepted x ≡ true → unlessRefused x ks ≡ ks
+pub unrefused : (x : Outcome) (ks : List line.Call) → accepted x ≡ true → unlessRefused x ks ≡ ks
 unrefused outcome.Done ks e = refl
 unrefused (outcome.Taken p) ks e = refl
 unrefused (outcome.Refused r) ks e = absurd (false≢true e)

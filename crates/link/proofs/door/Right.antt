@@ -16,12 +16,13 @@ use Rattle.line.proofs.Invariant.{Good}
 use Rattle.line.proofs.Always.{always, after-one}
 use Rattle.line.proofs.Busy.{busy-turns}
 use Rattle.line.proofs.Sending.{each-enq-its-block, ack-means-sent}
+use Rattle.line.specs.declared.phase.Phase.{Phase}
 use Rattle.line.specs.declared.line.Line.{Line}
 use Rattle.link.specs.Run.{hasNext, blockBytes}
 use Rattle.link.specs.Reading.{sendingOf}
 use Rattle.link.specs.History.{Call, byte, tick, drained, request, unlessRefused, onLine, cameTo, Made, Track, lentRoom, lineTrack, limitsIn, answered, next, track}
 use Rattle.link.specs.Inside.{Reached}
-use Rattle.link.specs.Door.{bytesLeft, closes, isBlock, lineBytes, onWay, kind, seesBy, Watch, watches, watched, watchOf, nothingWatched, OverBy, Stops, DoorRight}
+use Rattle.link.specs.Door.{bytesLeft, closes, isBlock, lineBytes, onWay, kind, seesBy, Watch, watches, watched, watchOf, nothingWatched, OverBy, Stops, DoorRight, triedBy, SendTimer}
 use Rattle.link.specs.declared.Refusal.{Refusal}
 use Rattle.link.specs.declared.Refusal.the-variants as refusal
 use Rattle.link.specs.declared.Outcome.{Outcome}
@@ -33,22 +34,23 @@ use Rattle.link.proofs.inside.Reached.{reached-next, start, reached-sta
 use Rattle.link.proofs.inside.Agrees.{agrees, whole-block}
 use Rattle.link.proofs.door.Bytes.{called-bytes}
 use Rattle.link.proofs.door.Courier.{byte-calls, tick-calls, drained-calls, lent-calls, free-calls}
-use Rattle.link.proofs.door.OneCall.{Settled, Known, Through, by-byte, by-tick, by-drained, by-ask, by-none}
+use Rattle.link.proofs.door.OneCall.{Settled, Untouched, Known, byte-untouched, Through, by-byte, by-tick, by-drained, by-ask, by-none}
 
 -- ---- one call
 
 -- what a call leaves is seen alike, whether it is refused or not
-abbrev pub Called : Limits → Seen → line.Call → Outcome → List ℕ → Bool → Line → Seen → Type 0
-Called c s k x bs sending l after =
+abbrev pub Called : Limits → Phase → Seen → line.Call → Outcome → List ℕ → Bool → Line → Seen → Type 0
+Called c p s k x bs sending l after =
     (seesBy x (watchOf s) k bs sending ≡ watchOf after)
     × Settled l
     × (closes bs ≡ true → OverBy c k bs sending (watchOf after))
     × (onWay (s .ours) ≡ true → onWay (after .ours) ≡ false → Stops c (watchOf s) k bs sending (watchOf after))
+    × ((n : ℕ) → SendTimer p n → SendTimer (l .phase) (triedBy x (s .ours) n k bs))
 
 carried :
-    (c : Limits) (s : Seen) (k : line.Call) (x : Outcome) (put bs : List ℕ) (f g : Bool) (l m : Line) (after : Seen)
-    → bs ≡ put → g ≡ f → l ≡ m → Called c s k x put f l after → Called c s k x bs g m after
-carried c s k x put bs f g l m after e same is w = rw (e, same, ← is) w
+    (c : Limits) (p : Phase) (s : Seen) (k : line.Call) (x : Outcome) (put bs : List ℕ) (f g : Bool) (l m : Line) (after : Seen)
+    → bs ≡ put → g ≡ f → l ≡ m → Called c p s k x put f l after → Called c p s k x bs g m after
+carried c p s k x put bs f g l m after e same is w = rw (e, same, ← is) w
 
 -- where EOT is waited for, there is a whole block to put out
 enquired-whole : (t : Track) → Reached t → (room : List ℕ) → oursAt (t .link .line .phase) ≡ enquired → isBlock (blockBytes (t .link) room) ≡ true
@@ -84,11 +86,11 @@ module _ (t : Track) (w : Reached t) (calm : Settled (t .link .line)) (room o : 
 
   abbrev Shown : line.Call → List line.Call → Outcome → Type 0
   Shown k ks x =
-      Called c s k x (lineBytes c (u .line) (u .received) block (unlessRefused x ks)) (busy (after x ks .line)) (after x ks .line) (after x ks .seen)
+      Called c (u .line .phase) s k x (lineBytes c (u .line) (u .received) block (unlessRefused x ks)) (busy (after x ks .line)) (after x ks .line) (after x ks .seen)
 
   shut : (k : line.Call) (ks : List line.Call) (n : Refusal) → Shown k ks (outcome.Refused n)
   unfolding line.track lineBytes
-  shut k ks n = (refl, calm, λ e. absurd (false≢true e), λ on gone. absurd (false≢true (sym gone ∙ on)))
+  shut k ks n = (refl, calm, λ e. absurd (false≢true e), λ on gone. absurd (false≢true (sym gone ∙ on)), λ n e. e)
 
   -- of a call that makes these on the line
   shown : (k : line.Call) (js ks : List line.Call) → ks ≡ js → Through c (u .line) (u .received) block s k js → (x : Outcome) → Shown k ks x
@@ -96,8 +98,14 @@ module _ (t : Track) (w : Reached t) (calm : Settled (t .link .line)) (room o : 
   shown k js ks e g (outcome.Taken p) = subst (Through c (u .line) (u .received) block s k) (sym e) g
   shown k js ks e g (outcome.Refused n) = shut k ks n
 
-  known : (j : line.Call) → Known c s j (line.called c (u .line) (u .received) j)
-  known j = record { kept = after-one c (lineTrack t) inside j; ack = λ e. ack-means-sent c (lineTrack t) inside e j }
+  known : (j : line.Call) → Known c (u .line .phase) s j (line.called c (u .line) (u .received) j)
+  known j = record {
+    kept = after-one c (lineTrack t) inside j;
+    ack = λ e. ack-means-sent c (lineTrack t) inside e j;
+    untouched = λ b fits e.
+        subst (λ (k : line.Call). Untouched (u .line .phase) (line.called c (u .line) (u .received) k .step .line .phase)) (sym e)
+        (byte-untouched c (u .line .held) (u .line .phase) b (u .received));
+  }
 
   call-shown : (k : Call) → Shown (kind k) (onLine u room k) (cameTo u room o k)
   call-shown (byte b fits) =
@@ -118,11 +126,11 @@ module _ (t : Track) (w : Reached t) (calm : Settled (t .link .line)) (room o : 
 
 pub one-call :
     (t : Track) → Reached t → Settled (t .link .line) → (m : Made)
-    → Called (limitsIn t) (t .seen) (kind (m .call)) (answered t m .answer .outcome) (bytesLeft (answered t m)) (sendingOf (next t m .link)) (next t m .link .line) (next t m .seen)
+    → Called (limitsIn t) (t .link .line .phase) (t .seen) (kind (m .call)) (answered t m .answer .outcome) (bytesLeft (answered t m)) (sendingOf (next t m .link)) (next t m .link .line) (next t m .seen)
 one-call t w calm m =
     let room = lentRoom (m .room) (t .room) in
     let goes = line-goes (t .link) room (m .out) (m .call) (t .seen) in
-    carried (limitsIn t) (t .seen) (kind (m .call)) (cameTo (t .link) room (m .out) (m .call)) _ _ _ _ _ _ (next t m .seen)
+    carried (limitsIn t) (t .link .line .phase) (t .seen) (kind (m .call)) (cameTo (t .link) room (m .out) (m .call)) _ _ _ _ _ _ (next t m .seen)
     (called-bytes (t .link) room (m .out) (m .call)) (agrees (next t m) (reached-next t w m) .same ∙ ap busy (sym (goes .line))) (goes .line)
     (call-shown t w calm room (m .out) (m .call))
 

@@ -1,82 +1,77 @@
--- A tick of the unit is one tick of the line and one of the transactions (`specs/Door.antt`). Assumes nothing.
+-- Each timer inside stands at the ticks that are counted outside (`specs/Door.antt`). Assumes nothing.
 use Prim.Native.Nat.{ℕ}
-use mathlib.Core.Path.{_≡_, refl, _∙_}
-use mathlib.Core.List.{List, [], _++_}
-use mathlib.Core.Bool.{Bool, true, false}
-use native.Mathlib.Omega.{arith}
-use Rattle.wire.proofs.Choice.{chosen}
-use Rattle.line.specs.History as line
-use Rattle.line.specs.declared.step.Out.{Out}
-use Rattle.line.specs.declared.step.Out.the-variants as out
-use Rattle.line.specs.declared.step.Told.{Told}
-use Rattle.line.specs.declared.step.Told.the-variants as told
-use Rattle.exchange.specs.History as exchange
-use Rattle.exchange.specs.Request.{lends, isSending}
-use Rattle.link.specs.Run.{hasNext}
-use Rattle.link.specs.History.{Call, byte, tick, drained, request, unlessRefused, stepIn, toldOn, itself, exchangeIn, settling, settles, couriersIn, onLine, onExchange, cameTo}
-use Rattle.link.specs.Door.{kind, ticksBy, lineTicks, exchangeTicks, TicksCounted}
-use Rattle.link.specs.declared.Outcome.{Outcome}
-use Rattle.link.specs.declared.Outcome.the-variants as outcome
-use Rattle.link.specs.declared.Link.{Link}
-use Rattle.link.proofs.inside.Courier.{by-courier}
+use mathlib.Core.Path.{_≡_, refl, sym, ap, subst, _∙_}
+use mathlib.Core.List.{List, [], _∷_}
+use Rattle.header.specs.declared.header.Header.{Header}
+use Rattle.settings.specs.declared.limits.Limits.{Limits}
+use Rattle.settings.specs.declared.terms.Terms.{Terms}
+use Rattle.line.proofs.Invariant.{At}
+use Rattle.line.proofs.Always.{always}
+use Rattle.line.specs.declared.phase.Phase.{Phase}
+use Rattle.line.specs.declared.phase.Phase.the-variants.{Idle, WaitEot, Draining, WaitAck, WaitLength, Body, Silence}
+use Rattle.place.specs.OwnHistory as own
+use Rattle.place.specs.IncomingHistory as incoming
+use Rattle.place.proofs.OwnInvariant.{At as OwnAt}
+use Rattle.place.proofs.OwnAlways.{always as own-always}
+use Rattle.place.proofs.IncomingInvariant.{At as IncomingAt, always as incoming-always}
+use Rattle.place.specs.declared.OwnStage.{OwnStage}
+use Rattle.place.specs.declared.OwnStage.the-variants as stage
+use Rattle.place.specs.declared.IncomingStage.{IncomingStage}
+use Rattle.place.specs.declared.IncomingStage.the-variants as arrival
+use Rattle.exchange.specs.Exchange.{ownPlace, incomingPlace}
+use Rattle.link.specs.History.{Made, Track, lineTrack, limitsIn, termsIn, answered, next, track}
+use Rattle.link.specs.Inside.{Reached}
+use Rattle.link.specs.Door.{bytesLeft, kind, Watch, nothingWatched, watches, watchOf, triedBy, tried, SendTimer, ReceiveTimer, OwnTimer, IncomingTimer, TicksCounted}
+use Rattle.link.proofs.inside.Reached.{reached-next, start, reached-start, line-inside}
+use Rattle.link.proofs.inside.Places.{places-inside}
+use Rattle.link.proofs.door.Right.{one-call, settled, door-right}
 
--- ticks that a call should be
-abbrev due : Call → ℕ
-due k = line.on (kind k) (λ b. 0) 1 0
+-- where its phase's counts are right
+receive-timer : (c : Limits) (p : Phase) (w e r n q : ℕ) → At c p w e r n q → ReceiveTimer p q
+receive-timer c Idle w e r n q g = tt
+receive-timer c (WaitEot timer tries) w e r n q g = tt
+receive-timer c (Draining tries) w e r n q g = tt
+receive-timer c (WaitAck timer tries) w e r n q g = tt
+receive-timer c (WaitLength timer) w e r n q g = sym (g .3)
+receive-timer c (Body timer a) w e r n q g = sym (g .3)
+receive-timer c (Silence timer fault) w e r n q g = sym (g .3)
 
--- ---- the line: the courier makes none
+own-timer : (c : Terms) (z : OwnStage) (h : List ℕ) (s : own.Seen) → OwnAt c z h s → OwnTimer z s
+own-timer c stage.Free h s g = tt
+own-timer c stage.Sending h s g = tt
+own-timer c (stage.Awaiting timer) h s g = sym (g .since)
+own-timer c (stage.Replying a) h s g = sym (g .arrives .quiet)
+own-timer c (stage.Done v r) h s g = tt
 
-module _ (u : Link) (room : List ℕ) where
-  courier-none : (k : Call) → lineTicks (settling (couriersIn u room k)) ≡ 0
-  unfolding lineTicks
-  courier-none k =
-      by-courier (λ ks l. lineTicks (settling ks) ≡ 0) (u .line) (u .block) refl refl refl (isSending (u .exchange)) (isSending (exchangeIn u room k)) (stepIn u k .step .told)
+incoming-timer : (c : Terms) (z : IncomingStage) (h : Header) (s : incoming.Seen) → IncomingAt c z h s → IncomingTimer z s
+incoming-timer c arrival.Free h s g = tt
+incoming-timer c (arrival.Open a) h s g = sym (g .arrives .quiet)
+incoming-timer c (arrival.Complete n) h s g = tt
+incoming-timer c (arrival.Replying n) h s g = tt
+incoming-timer c (arrival.Replied n e) h s g = tt
 
-  settles-none : (p : Out) (ks : List line.Call) → lineTicks (settling ks) ≡ 0 → lineTicks (settles p ks) ≡ 0
-  unfolding lineTicks
-  settles-none out.Nothing ks e = e
-  settles-none (out.Code c) ks e = e
-  settles-none out.Block ks e = refl
-
-  line-ticks : (k : Call) → lineTicks (onLine u room k) ≡ due k
-  unfolding lineTicks
-  line-ticks (byte b fits) = rw (settles-none (stepIn u (byte b fits) .step .out) (couriersIn u room (byte b fits)) (courier-none (byte b fits))) refl
-  line-ticks tick = rw (courier-none tick) refl
-  line-ticks drained = rw (courier-none drained) refl
-  line-ticks (request r) = chosen (λ ks. lineTicks ks ≡ 0) (lends r) _ _ (λ e. courier-none (request r)) (λ e. refl)
-
--- ---- the transactions: what the device tells is none
-
-told-none : (t : Told) (more : Bool) (rs : List ℕ) (ks : List exchange.Call) → exchangeTicks (toldOn t more rs ++ ks) ≡ exchangeTicks ks
-unfolding exchangeTicks
-told-none told.Nothing more rs ks = refl
-told-none told.Sent true rs ks = refl
-told-none told.Sent false rs ks = omega arith
-told-none told.Failed more rs ks = omega arith
-told-none (told.Up n) more rs ks = omega arith
-
-itself-due : (k : Call) → exchangeTicks (itself k) ≡ due k
-unfolding exchangeTicks
-itself-due (byte b fits) = refl
-itself-due tick = refl
-itself-due drained = refl
-itself-due (request r) = refl
-
-exchange-ticks : (u : Link) (k : Call) → exchangeTicks (onExchange u k) ≡ due k
-exchange-ticks u k = told-none (stepIn u k .step .told) (hasNext u) (stepIn u k .received) (itself k) ∙ itself-due k
-
--- ---- refused or not
-
-counted :
-    {A : Type 0} (count : List A → ℕ) → count [] ≡ 0 → (x : Outcome) (ks : List A) (k : Call) → count ks ≡ due k
-    → count (unlessRefused x ks) ≡ ticksBy x (kind k)
-counted count none outcome.Done ks k e = e
-counted count none (outcome.Taken p) ks k e = e
-counted count none (outcome.Refused r) ks k e = none
+-- where the timer of a wait of ours stands at n, after these calls it stands at what is counted then
+all-tried : (t : Track) → Reached t → (ms : List Made) (w : Watch) → w ≡ watchOf (t .seen) → (n : ℕ) → SendTimer (t .link .line .phase) n
+    → SendTimer (track t ms .link .line .phase) (tried n w t ms)
+unfolding tried track
+all-tried t r [] w e n g = g
+all-tried t r (m ∷ ms) w e n g =
+    let one = one-call t r (settled t r) m in
+    all-tried (next t m) (reached-next t r m) ms _ (ap (λ v. watches v (m .call) (answered t m)) e ∙ one .0) _
+    (subst (λ (v : Watch). SendTimer (next t m .link .line .phase) (triedBy (answered t m .answer .outcome) (v .ours) n (kind (m .call)) (bytesLeft (answered t m)))) (sym e)
+    (one .4 n g))
 
 pub ticks-counted : TicksCounted
-unfolding lineTicks exchangeTicks
-ticks-counted u room o k = record {
-  line = counted lineTicks refl (cameTo u room o k) (onLine u room k) k (line-ticks u room k);
-  exchange = counted exchangeTicks refl (cameTo u room o k) (onExchange u k) k (exchange-ticks u k);
-}
+ticks-counted t w a =
+    let r = a .reached in
+    let places = places-inside t r in
+    record {
+      sends =
+          subst (λ (v : Track). SendTimer (v .link .line .phase) (tried 0 nothingWatched (start t r) (r .calls))) (r .so)
+          (all-tried (start t r) (reached-start t r) (r .calls) nothingWatched refl 0 tt);
+      receives =
+          subst (ReceiveTimer (t .link .line .phase)) (sym (ap (λ (v : Watch). v .silent) (door-right t w a)))
+          (receive-timer (limitsIn t) (t .link .line .phase) _ _ _ _ (t .seen .silent) (always (limitsIn t) (lineTrack t) (line-inside t r) .counts));
+      own = λ p less. let o = ownPlace (t .link .exchange) p in own-timer (termsIn t) (o .stage) (o .header) (t .own p) (own-always (termsIn t) _ (places .own p less));
+      incoming = λ p less. let i = incomingPlace (t .link .exchange) p in incoming-timer (termsIn t) (i .stage) (i .header) (t .incoming p) (incoming-always (termsIn t) _ (places .incoming p less));
+    }

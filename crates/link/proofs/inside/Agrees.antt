@@ -76,7 +76,7 @@ by-outgoing (sending.Reply p f n) x P none message = message _ n
 more-blocks : (z : Sending) (x : Exchange) (k : ℕ) → nextIn (outgoingAt z x) k ≡ true → k < blockCount (lengthSent z)
 more-blocks z x k = by-outgoing z x (λ s n o. nextIn o k ≡ true → k < blockCount n) (λ e. clash e) (λ h n e. ltb-true k (blockCount n) e)
 
-message-of : (z : Sending) (x : Exchange) → sendingBy z ≡ true → (h : Header) × (outgoingAt z x ≡ outgoing.Message h (lengthSent z))
+pub message-of : (z : Sending) (x : Exchange) → sendingBy z ≡ true → (h : Header) × (outgoingAt z x ≡ outgoing.Message h (lengthSent z))
 message-of z x = by-outgoing z x (λ s n o. s ≡ true → (h : Header) × (o ≡ outgoing.Message h n)) (λ e. clash e) (λ h n e. (h, refl))
 
 size-of : (z : Sending) (x : Exchange) (h : Header) (n : ℕ) → outgoingAt z x ≡ outgoing.Message h n → (sendingBy z ≡ true) × (lengthSent z ≡ n)
@@ -87,7 +87,7 @@ area-holds room sending.Nothing bs h = omega arith
 area-holds room (sending.Primary p n) bs h = h .few
 area-holds room (sending.Reply p f n) bs h = h .few
 
-few-sent : (t : Track) → Reached t → lengthSent (t .link .exchange .sending) ≤ messageLimit
+pub few-sent : (t : Track) → Reached t → lengthSent (t .link .exchange .sending) ≤ messageLimit
 few-sent t w =
     let r = exchange-inside t w in
     area-holds (r .room) (t .link .exchange .sending) (t .joined .outgoing) (always (termsIn t) (exchangeTrack t (r .room)) (r .reached) .sends)

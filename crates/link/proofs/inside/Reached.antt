@@ -14,18 +14,23 @@ use Rattle.link.proofs.inside.Line.{line-goes, settings-kept}
 
 -- ---- any calls
 
--- one call more
-pub reached-next : (t : Track) → Reached t → (m : Made) → Reached (next t m)
+-- some calls more
+unfoldable pub reached-more : (t : Track) → Reached t → (ms : List Made) → Reached (track t ms)
 unfolding track
-reached-next t w m = record {
+reached-more t w ms = record {
   setup = w .setup;
   settings = w .settings;
   started = w .started;
   room = w .room;
   whole = w .whole;
-  calls = w .calls ++ (m ∷ []);
-  so = go-on next track (λ v. refl) (λ v l ms. refl) (atStart (w .settings) (w .setup .last) (w .room)) t (w .calls) (m ∷ []) (w .so);
+  calls = w .calls ++ ms;
+  so = go-on next track (λ v. refl) (λ v l ks. refl) (atStart (w .settings) (w .setup .last) (w .room)) t (w .calls) ms (w .so);
 }
+
+-- one call more
+pub reached-next : (t : Track) → Reached t → (m : Made) → Reached (next t m)
+unfolding track
+reached-next t w m = reached-more t w (m ∷ [])
 
 -- the start
 abbrev pub start : (t : Track) → Reached t → Track

@@ -55,7 +55,11 @@ kept-note =
     by-note (λ k a. blockNote k ≡ 21 → k ≡ kept.Kept) (λ e. refl) (λ k a b e. absurd (omega arith))
     (λ k i e. absurd (⊎-elim (λ z. omega arith) (λ z. omega arith) i))
 
--- it is the least
+-- 27 is the most
+pub to-27 : (k : BlockNote) → blockNote k ≤ 27
+to-27 = by-note (λ k a. blockNote k ≤ 27) (omega arith) (λ k a b. omega arith) (λ k i. ⊎-elim (λ z. omega arith) (λ z. omega arith) i)
+
+-- 21 is the least
 from-21 : (k : BlockNote) → 21 ≤ blockNote k
 from-21 = by-note (λ k a. 21 ≤ blockNote k) (omega arith) (λ k a b. omega arith) (λ k i. ⊎-elim (λ z. omega arith) (λ z. omega arith) i)
 
@@ -109,12 +113,16 @@ module _ (t : Track) (m : Made) where
   abbrev pub Rose : Type 0
   Rose = (h : List ℕ) × (d : List ℕ) × GoesUp t m h d
 
-  pub rises : Accepted t m → Rose ⊎ (noted t m ≡ noteNumber (remarkNote u (m .call)))
-  rises a =
+  -- a block went up, or what the line remarked is noted
+  pub remarked : Accepted t m → Rose ⊎ (answered t m .answer .note ≡ remarkNote u (m .call))
+  remarked a =
       ⊎-elim
       (λ z. inl (z .0, z .1, subst (Among (exchange.block (z .0) (z .1))) (sym (accepted-calls t m a)) (front-among (exchange.block (z .0) (z .1)) _ (itself (m .call)) (z .2))))
-      (λ e. inr (accepted-note a ∙ ap noteNumber e))
+      (λ e. inr (accepted-says t m a .0 ∙ passing-note (ticks (m .call)) (termsIn t) _ ∙ e))
       (said-note u (lent t m) (remarkNote u (m .call)) _ _ (step-said u (lent t m) (m .call)))
+
+  pub rises : Accepted t m → Rose ⊎ (noted t m ≡ noteNumber (remarkNote u (m .call)))
+  rises a = ⊎-elim (λ g. inl g) (λ e. inr (ap noteNumber e)) (remarked a)
 
   -- where none went up
   remark-noted : (r : Remark) → Remarks t m r → ((h d : List ℕ) → GoesUp t m h d → ⊥) → noted t m ≡ noteNumber (noteBy r)

@@ -91,6 +91,9 @@ pub started-as : (s : Setup) (z : Settings) → rangedOf s ≡ Kept z → Starte
 started-as s z =
     by-ranged s (λ k. k ≡ Kept z → StartedAs s z) (λ f e. record { fits = f; in-ticks = sym (ap kept e) }) (λ n e. absurd (false≢true (ap isKept e)))
 
+pub ranged-as : (s : Setup) → SetupFits s → rangedOf s ≡ Kept (inTicks s)
+ranged-as s fits = by-ranged s (λ k. k ≡ Kept (inTicks s)) (λ f. refl) (λ n. absurd (n fits))
+
 pub settings-sound : (s : Setup) → SetupFits s → settingsInRange (inTicks s) ≡ true
 unfolding settingsInRange
 settings-sound s f = simp (taken-in-range (panelOf s) .in-range (line-part s f), terms-in-range (messagesOf s) .in-range (terms-part s f))

@@ -2,7 +2,7 @@
 use Prim.Native.Nat.{ℕ, zero, suc, _+_, _-_, _≤_, _<_}
 use mathlib.Core.Path.{_≡_, refl, sym, ap, subst, _∙_}
 use mathlib.Core.Bool.{Bool, true, false}
-use mathlib.Core.List.{List, _++_}
+use mathlib.Core.List.{List, [], _∷_, _++_}
 use native.Mathlib.Omega.{arith}
 use lib.Dec.{ltb}
 use lib.ListN.{length, take, drop, getD, length-append, length-take, List·getD-eq-default}
@@ -19,7 +19,8 @@ use Rattle.cut.specs.declared.Cut.{Cut}
 use Rattle.cut.specs.declared.Cut.the-variants.{Block}
 use Rattle.cut.proofs.Counts.{count-is-fewest}
 use Rattle.cut.proofs.Cutting.{cut-is, cut-blocks, cut-parts}
-use Rattle.block.specs.Block.{blockOf}
+use Rattle.wire.specs.Sum.{checksumOf}
+use Rattle.block.specs.Block.{framed, blockOf}
 use Rattle.room.specs.Room.{front}
 use Rattle.room.specs.declared.Message.the-variants.{Send}
 use Rattle.room.proofs.Reading.{bytes-read}
@@ -54,6 +55,29 @@ block-bytes h d r b = record { at = headed h d r b }
 pub block-length : (h : Header) (d : List ℕ) → length (headerBytes h ++ d) ≡ 10 + length d
 unfolding headerBytes
 block-length h d = omega (arith, length-append (headerBytes h) d)
+
+-- none, one and others, some and others
+pub no-bytes : Bytes []
+no-bytes = record { at = λ i. omega arith }
+
+pub one-byte : (b : ℕ) (bs : List ℕ) → b < 256 → Bytes bs → Bytes (b ∷ bs)
+one-byte b bs fits r = record { at = by }
+  where
+    by : (i : ℕ) → getD (b ∷ bs) i 0 < 256
+    by zero = fits
+    by (suc i) = r .at i
+
+some-bytes : (xs ys : List ℕ) → Bytes xs → Bytes ys → Bytes (xs ++ ys)
+some-bytes [] ys x y = y
+some-bytes (b ∷ bs) ys x y = one-byte b (bs ++ ys) (x .at 0) (some-bytes bs ys (record { at = λ i. x .at (suc i) }) y)
+
+-- a block on the line
+pub line-bytes : (h : Header) (d : List ℕ) → InRange h → Bytes d → length d ≤ 244 → Bytes (blockOf h d)
+unfolding framed checksumOf
+line-bytes h d r b short =
+    let bs : List ℕ = headerBytes h ++ d in
+    one-byte (length bs) _ (omega (arith, block-length h d))
+    (some-bytes bs _ (block-bytes h d r b) (one-byte _ _ (omega arith) (one-byte _ [] (omega arith) no-bytes)))
 
 -- a part of bytes is bytes
 part-bytes : (a e : ℕ) (d : List ℕ) → Bytes d → Bytes (part a e d)
@@ -97,10 +121,13 @@ module _ (h : Header) (d : List ℕ) (i : InRange h) (short : length d ≤ messa
     data-is : dataIn h d k ≡ part (partStart k) (partStart k + partLength (length d) k) d
     data-is = ap (λ (c : Cut). partIn c d) there-is
 
+    pub data-length : length (dataIn h d k) ≡ partLength (length d) k
+    data-length = omega (arith, ap length data-is, cut-parts h (headerAt h (length d) k) d k (partStart k) (partLength (length d) k) there-is)
+
     pub data-most : length (dataIn h d k) ≤ 244
     data-most =
         let c = cut-blocks h (headerAt h (length d) k) (length d) k (partStart k) (partLength (length d) k) there-is in
-        omega (arith, ap length data-is, cut-parts h (headerAt h (length d) k) d k (partStart k) (partLength (length d) k) there-is)
+        omega (arith, data-length)
 
     pub data-bytes : Bytes d → Bytes (dataIn h d k)
     data-bytes b = subst Bytes (sym data-is) (part-bytes (partStart k) (partStart k + partLength (length d) k) d b)

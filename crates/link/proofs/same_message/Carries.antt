@@ -1,7 +1,7 @@
 -- The blocks of a message are carried, one after the other: the receiver judges them in order, and nothing is left on the line. It does
 -- not matter here whether the message is a primary or a reply. Assumes nothing.
 use Prim.Native.Nat.{ℕ, zero, suc, _+_, _-_, _≤_, _<_}
-use mathlib.Core.Path.{_≡_, refl, ap, subst, _∙_}
+use mathlib.Core.Path.{_≡_, refl, sym, ap, subst, _∙_}
 use mathlib.Core.Bool.{Bool, true, false, false≢true}
 use mathlib.Core.List.{List, [], _∷_, _++_}
 use native.Mathlib.Omega.{arith}
@@ -18,15 +18,13 @@ use Rattle.room.specs.Room.{front}
 use Rattle.room.specs.declared.Message.the-variants.{Send}
 use Rattle.line.specs.Codes.{ENQ, EOT, ACK}
 use Rattle.line.specs.Line.{lineAt, holding, eotByte, ackByte, settleIdle, settleOf}
-use Rattle.line.specs.Range.{waitInRange}
 use Rattle.line.specs.declared.phase.Phase.the-variants.{Idle, WaitEot, Draining, WaitAck, WaitLength}
 use Rattle.line.specs.declared.step.Out.the-variants.{Nothing}
 use Rattle.line.specs.declared.step.Told.the-variants as told
-use Rattle.exchange.specs.Note.{noteNumber}
 use Rattle.exchange.specs.Send.{outgoingAt, outgoingOf, sentOf}
 use Rattle.exchange.specs.Request.{sendingBy, isSending}
 use Rattle.exchange.specs.Judge.{judgeOf}
-use Rattle.exchange.specs.Assembly.{headerIn, dataIn, Receiver, received}
+use Rattle.exchange.specs.Assembly.{headerIn, dataIn, Receiver, passes, rests, received}
 use Rattle.exchange.proofs.BeingSent.{sending-ends}
 use Rattle.exchange.specs.declared.Sending.{Sending}
 use Rattle.exchange.specs.declared.Sending.the-variants as sending
@@ -34,17 +32,19 @@ use Rattle.exchange.specs.declared.Exchange.{Exchange}
 use Rattle.exchange.specs.declared.Outgoing.{Outgoing}
 use Rattle.exchange.specs.declared.Outgoing.the-variants.{Message}
 use Rattle.link.specs.Courier.{carried as carrying, courierBy}
-use Rattle.link.specs.Run.{nextIn, untold, changedTo, acknowledged, carriedBy, codes, closed, course, blockIn}
-use Rattle.link.specs.SameMessage.{End, endOf, Said, noting, noted, saidBy, hearsAll, drains, Pair, pair, carried, carries}
+use Rattle.link.specs.Run.{nextIn, hasNext, untold, changedTo, acknowledged, carriedBy, codes, closed, course, blockIn}
+use Rattle.link.specs.History.{Track}
+use Rattle.link.specs.SameMessage.{End, endOf, Said, noting, noted, saidBy, hearsAll, drainsLate, Pair, pair, Pauses, carried, carries, total, ticksIn, BlockOf, InTime}
 use Rattle.link.specs.declared.Carried.{Carried}
 use Rattle.link.specs.declared.Midway.{Midway}
 use Rattle.link.specs.declared.Note.the-variants as note
 use Rattle.link.specs.declared.Settings.{Settings}
 use Rattle.link.specs.declared.Link.{Link}
 use Rattle.link.specs.declared.Outcome.the-variants.{Done}
-use Rattle.link.proofs.same_message.Calls.{said, leaving-said, course-said, unit, Sound, says, drains-as, quiet-said}
+use Rattle.link.proofs.same_message.Calls.{said, leaving-said, course-said, unit, Sound, says, drains-as, quiet-said, heard-late, drained-late, draining-counts, eot-counts, ack-counts}
+use Rattle.link.proofs.same_message.Reaches.{Reaches, reaches-heard, reaches-drained}
 use Rattle.link.proofs.same_message.Hears.{one-heard, overwritten, ack-of, enq-heard, block-heard}
-use Rattle.link.proofs.same_message.Blocks.{block-bytes, block-length, ten-read, data-read, few, some, header-in-range, data-most, data-bytes, block-out}
+use Rattle.link.proofs.same_message.Blocks.{no-bytes, one-byte, line-bytes, block-bytes, block-length, ten-read, data-read, few, some, header-in-range, data-length, data-most, data-bytes, block-out}
 
 -- ---- the sender, at block k
 
@@ -54,75 +54,98 @@ sends-one sending.Nothing x h n e = absurd (false≢true (cc e))
 sends-one (sending.Primary p m) x h n e = refl
 sends-one (sending.Reply p f m) x h n e = refl
 
-module _ (o : List ℕ) (long : 257 ≤ length o) (s : Settings) (x : Exchange) (k : ℕ) (room rs : List ℕ) (g : Sound s x k room) where
+-- at block k, m ticks on
+module _ (o : List ℕ) (long : 257 ≤ length o) (s : Settings) (x : Exchange) (k : ℕ) (room rs : List ℕ)
+    (g : (n : ℕ) → Sound s (passes (s .terms) x n) k room) (m n : ℕ) where
+  -- the transactions n ticks later
+  abbrev then : Exchange
+  then = passes (s .terms) x (m + n)
+
   -- "EOT puts out the whole block."
-  eot-heard : hearsAll o (endOf (unit s (WaitEot 0 0) rs x k) room) (EOT ∷ [])
-      ≡ said (endOf (unit s (Draining 0) rs x k) room) (blockIn (outgoingOf x) k room)
-  unfolding waitInRange eotByte
-  eot-heard =
-      one-heard o _ EOT _
-      (says s x k room o long g (WaitEot 0 0) rs EOT _ refl refl
-      ∙ leaving-said (blockIn (outgoingOf x) k room) (unit s (Draining 0) rs x k) Done (untold x note.Nothing) room o)
+  eot-heard : n ≤ s .limits .t2 .0
+      → hearsAll o (λ i. n) (endOf (unit s (WaitEot 0 0) rs (passes (s .terms) x m) k) room) (EOT ∷ [])
+      ≡ said (endOf (unit s (Draining 0) rs then k) room) (blockIn (outgoingOf then) k room)
+  unfolding eotByte
+  eot-heard fits =
+      let c = eot-counts (s .limits) n (g 0 .t2) fits in
+      one-heard o (λ i. n) _ EOT _
+      (heard-late s x k room o long g (λ i. WaitEot i 0) rs m n EOT c
+      ∙ says s then k room o long (g (m + n)) (WaitEot n 0) rs EOT _ (c .ranged n (omega arith)) refl
+      ∙ leaving-said (blockIn (outgoingOf then) k room) (unit s (Draining 0) rs then k) Done (untold then note.Nothing) room o)
 
   -- "drained starts the wait for ACK"
-  drained : drains o (endOf (unit s (Draining 0) rs x k) room) ≡ said (endOf (unit s (WaitAck 0 0) rs x k) room) []
-  drained = drains-as s x k room o long g (Draining 0) rs refl ∙ quiet-said s x k room o (Draining 0) (WaitAck 0 0) Nothing rs rs refl
+  drained : drainsLate o n (endOf (unit s (Draining 0) rs (passes (s .terms) x m) k) room) ≡ said (endOf (unit s (WaitAck 0 0) rs then k) room) []
+  drained =
+      drained-late s x k room o long g (λ i. Draining 0) rs m n (draining-counts (s .limits) n)
+      ∙ drains-as s then k room o long (g (m + n)) (Draining 0) rs refl ∙ quiet-said s then k room o (Draining 0) (WaitAck 0 0) Nothing rs rs refl
 
-  -- "ACK means sent": what is made of it, and what the courier carries then
-  ack-heard : (m : Midway) (c : Carried) → acknowledged (nextIn (outgoingOf x) k) x note.Nothing ≡ m
-      → carriedBy (unit s Idle rs x k) told.Sent (m .exchange) room ≡ c
-      → hearsAll o (endOf (unit s (WaitAck 0 0) rs x k) room) (ACK ∷ [])
-      ≡ noting (endOf (closed (unit s Idle rs x k) c (m .exchange)) room) (codes Nothing (settleOf (c .line) .out)) (noted (m .note))
-  unfolding waitInRange ackByte
-  ack-heard m c made e =
-      let u : Link = unit s Idle rs x k in
-      one-heard o _ ACK _
-      (says s x k room o long g (WaitAck 0 0) rs ACK _ refl refl ∙ ap (λ (z : Midway). saidBy (course u Nothing told.Sent z Done room o)) made
-      ∙ course-said u Nothing told.Sent m Done room o c e)
+  module _ (fits : n ≤ s .limits .t2 .0) where
+    -- "ACK means sent": what is made of it, and what the courier carries then
+    ack-heard : (z : Midway) (c : Carried) → acknowledged (hasNext (unit s Idle rs then k)) then note.Nothing ≡ z
+        → carriedBy (unit s Idle rs then k) told.Sent (z .exchange) room ≡ c
+        → hearsAll o (λ i. n) (endOf (unit s (WaitAck 0 0) rs (passes (s .terms) x m) k) room) (ACK ∷ [])
+        ≡ noting (endOf (closed (unit s Idle rs then k) c (z .exchange)) room) (codes Nothing (settleOf (c .line) .out)) (noted (z .note))
+    unfolding ackByte
+    ack-heard z c made e =
+        let u : Link = unit s Idle rs then k in
+        let q = ack-counts (s .limits) n (g 0 .t2) fits in
+        one-heard o (λ i. n) _ ACK _
+        (heard-late s x k room o long g (λ i. WaitAck i 0) rs m n ACK q
+        ∙ says s then k room o long (g (m + n)) (WaitAck n 0) rs ACK _ (q .ranged n (omega arith)) refl
+        ∙ ap (λ (y : Midway). saidBy (course u Nothing told.Sent y Done room o)) made
+        ∙ course-said u Nothing told.Sent z Done room o c e)
 
-  module _ (sends : isSending x ≡ true) where
-    -- "the message's next block goes out with ENQ in the same call."
-    next-asked : nextIn (outgoingOf x) k ≡ true
-        → hearsAll o (endOf (unit s (WaitAck 0 0) rs x k) room) (ACK ∷ []) ≡ said (endOf (unit s (WaitEot 0 0) rs x (k + 1)) room) (ENQ ∷ [])
-    unfolding acknowledged holding settleIdle
-    next-asked e =
-        ack-heard (untold x note.Nothing) (carrying (lineAt true Idle) (k + 1)) (ap (λ (t : Bool). acknowledged t x note.Nothing) e)
-        (ap (λ (t : Bool). courierBy t t told.Sent (lineAt false Idle) k) sends)
+    module _ (sends : isSending then ≡ true) where
+      -- "the message's next block goes out with ENQ in the same call."
+      next-asked : hasNext (unit s Idle rs then k) ≡ true
+          → hearsAll o (λ i. n) (endOf (unit s (WaitAck 0 0) rs (passes (s .terms) x m) k) room) (ACK ∷ [])
+          ≡ said (endOf (unit s (WaitEot 0 0) rs then (k + 1)) room) (ENQ ∷ [])
+      unfolding acknowledged holding settleIdle
+      next-asked e =
+          ack-heard (untold then note.Nothing) (carrying (lineAt true Idle) (k + 1)) (ap (λ (t : Bool). acknowledged t then note.Nothing) e)
+          (ap (λ (t : Bool). courierBy t t told.Sent (lineAt false Idle) k) sends)
 
-    -- behind the last one no message is being sent
-    all-sent : nextIn (outgoingOf x) k ≡ false
-        → hearsAll o (endOf (unit s (WaitAck 0 0) rs x k) room) (ACK ∷ []) ≡ said (endOf (unit s Idle rs (sentOf x .exchange) 1) room) []
-    unfolding acknowledged settleIdle
-    all-sent e =
-        ack-heard (changedTo (sentOf x) note.Nothing) (carrying (lineAt false Idle) 1) (ap (λ (t : Bool). acknowledged t x note.Nothing) e)
-        (λ i. courierBy (sends i) (sendingBy (sending-ends (s .terms) x .acknowledged i)) told.Sent (lineAt false Idle) k)
+      -- behind the last one no message is being sent
+      all-sent : hasNext (unit s Idle rs then k) ≡ false
+          → hearsAll o (λ i. n) (endOf (unit s (WaitAck 0 0) rs (passes (s .terms) x m) k) room) (ACK ∷ [])
+          ≡ said (endOf (unit s Idle rs (sentOf then .exchange) 1) room) []
+      unfolding acknowledged settleIdle
+      all-sent e =
+          ack-heard (changedTo (sentOf then) note.Nothing) (carrying (lineAt false Idle) 1) (ap (λ (t : Bool). acknowledged t then note.Nothing) e)
+          (λ i. courierBy (sends i) (sendingBy (sending-ends (s .terms) then .acknowledged i)) told.Sent (lineAt false Idle) k)
 
 -- ---- the receiver
 
-module _ (o : List ℕ) (long : 257 ≤ length o) (t : Settings) (y : Exchange) (room rs : List ℕ) (g : Sound t y 1 room) where
-  -- a block of header h and data d: it is acknowledged and judged
-  taken-up : (h : Header) (d : List ℕ) → length rs ≡ 256 → InRange h → Bytes d → length d ≤ 244
-      → hearsAll o (endOf (unit t (WaitLength 0) rs y 1) room) (blockOf h d)
-      ≡ ack-of t (overwritten rs (headerBytes h ++ d)) 1 (judgeOf (t .terms) y (headerBytes h) d room)
-  taken-up h d fits i b short =
+module _ (o : List ℕ) (long : 257 ≤ length o) (t : Settings) (y : Exchange) (room rs : List ℕ) (g : (n : ℕ) → Sound t (passes (t .terms) y n) 1 room) where
+  -- a block of header h and data d, m ticks on: it is acknowledged and judged, its ticks later
+  taken-up : (w : ℕ → ℕ) (m : ℕ) (h : Header) (d : List ℕ) → length rs ≡ 256 → InRange h → Bytes d → length d ≤ 244
+      → w 0 ≤ t .limits .t2 .0 → ((i : ℕ) → 1 ≤ i → i < 1 + (10 + length d) + 2 → w i ≤ t .limits .t1 .0)
+      → hearsAll o w (endOf (unit t (WaitLength 0) rs (passes (t .terms) y m) 1) room) (blockOf h d)
+      ≡ ack-of t (overwritten rs (headerBytes h ++ d)) 1 (judgeOf (t .terms) (passes (t .terms) y (m + total w (1 + (10 + length d) + 2))) (headerBytes h) d room)
+  taken-up w m h d fits i b short first quick =
       let bs : List ℕ = headerBytes h ++ d in
       let n = block-length h d in
-      block-heard o long t y 1 room g rs bs fits (omega arith) (omega arith) (block-bytes h d i b)
-      ∙ (λ z. ack-of t (overwritten rs bs) 1 (judgeOf (t .terms) y (ten-read h d (drop (length bs) rs) z) (data-read h d (drop (length bs) rs) z) room))
+      block-heard o long t y 1 room g w m rs bs fits (omega arith) (omega arith) (block-bytes h d i b) first
+      (λ j least less. quick j least (omega arith))
+      ∙ (λ z.
+      ack-of t (overwritten rs bs) 1
+      (judgeOf (t .terms) (passes (t .terms) y (m + total w (1 + n z + 2)))
+      (ten-read h d (drop (length bs) rs) z) (data-read h d (drop (length bs) rs) z) room))
 
 -- ---- both
 
 -- what is left of `carried` once the receiver heard the ENQ, once the sender heard the EOT, and once the block is through
-abbrev on-block : List ℕ → List ℕ → List ℕ → List ℕ → Said → Said → Pair
-on-block o ns asked block gone taken =
-    let ended = hearsAll o (gone .end) (taken .bytes) in
+abbrev on-block : List ℕ → ℕ → List ℕ → List ℕ → List ℕ → Said → Said → Pair
+on-block o ack ns asked block gone taken =
+    let ended = hearsAll o (λ i. ack) (gone .end) (taken .bytes) in
     pair (ended .end) (taken .end) (gone .bytes ++ ended .bytes) (ns ++ (asked ++ (block ++ (taken .notes ++ (gone .notes ++ ended .notes)))))
 
-abbrev on-eot : List ℕ → List ℕ → Said → Said → Pair
-on-eot o ns asked block = on-block o ns (asked .notes) (block .notes) (drains o (block .end)) (hearsAll o (asked .end) (block .bytes))
+abbrev on-eot : List ℕ → Pauses → List ℕ → Said → Said → Pair
+on-eot o w ns asked block =
+    on-block o (w .ack) ns (asked .notes) (block .notes) (drainsLate o (w .draining) (block .end)) (hearsAll o (w .byte) (asked .end) (block .bytes))
 
-abbrev on-enq : List ℕ → List ℕ → End → Said → Pair
-on-enq o ns a asked = on-eot o ns asked (hearsAll o a (asked .bytes))
+abbrev on-enq : List ℕ → Pauses → List ℕ → End → Said → Pair
+on-enq o w ns a asked = on-eot o w ns asked (hearsAll o (λ i. w .eot) a (asked .bytes))
 
 -- an idle end of these transactions and this room, with these bytes in its array; none of its blocks is on its way
 abbrev pub idle-end : Settings → List ℕ → Exchange → List ℕ → End
@@ -132,26 +155,40 @@ idle-end t rs y room = endOf (unit t Idle rs y 1) room
 abbrev received-end : Settings → List ℕ → Receiver → End
 received-end t rs y = idle-end t rs (y .exchange) (y .room)
 
--- All blocks of a message were carried: it is sent, the receiver judged them all, both lines are idle, and nothing is on the line.
-pub record Arrived (h : Header) (d : List ℕ) (s : Settings) (x : Exchange) (sent kept : List ℕ) (t : Settings) (r : Receiver) (p : Pair) : Type 0 where
+-- the ticks at the sender while blocks 1 to k are carried
+unfoldable pub spent : (ℕ → Pauses) → ℕ → ℕ
+spent w zero = 0
+spent w (suc k) = spent w k + w (suc k) .eot + w (suc k) .draining + w (suc k) .ack
+
+-- All blocks of a message were carried: it is sent, the receiver judged them all, both lines are idle, and nothing is on the line; and
+-- calls left both ends.
+pub record Arrived (here there : Track) (h : Header) (d : List ℕ) (w : ℕ → Pauses) (s : Settings) (x : Exchange) (sent kept : List ℕ) (t : Settings) (r : Receiver) (p : Pair) : Type 0 where
   pub array : List ℕ
-  pub fits : length array ≡ 256
   pub so : p
-      ≡ pair (idle-end s kept (sentOf x .exchange) sent) (received-end t array (received (t .terms) r h d (blockCount (length d)))) []
-      (received (t .terms) r h d (blockCount (length d)) .notes)
+      ≡ pair (idle-end s kept (sentOf (passes (s .terms) x (spent w (blockCount (length d)))) .exchange) sent)
+      (received-end t array (received (t .terms) (ticksIn d w) r h d (blockCount (length d)))) []
+      (received (t .terms) (ticksIn d w) r h d (blockCount (length d)) .notes)
+  pub sender-reaches : Reaches here (p .sender)
+  pub receiver-reaches : Reaches there (p .receiver)
 
 -- a message d with header h is sent by x at one end; r receives it at the other
 module _ (o : List ℕ) (long : 257 ≤ length o) (h : Header) (d : List ℕ) (i : InRange h) (b : Bytes d) (short : length d ≤ messageLimit)
-    (s : Settings) (x : Exchange) (sent kept : List ℕ) (sound : (k : ℕ) → 1 ≤ k → k ≤ mostBlocks → Sound s x k sent)
-    (going : outgoingOf x ≡ Message h (length d)) (starts : front sent Send (length d) ≡ d)
-    (t : Settings) (r : Receiver) (rs : List ℕ) (fits : length rs ≡ 256)
-    (sounds : (k : ℕ) → k < blockCount (length d) → Sound t (received (t .terms) r h d k .exchange) 1 (received (t .terms) r h d k .room)) where
-  sends : isSending x ≡ true
-  sends = sends-one (x .sending) x h (length d) going
+    (s : Settings) (x : Exchange) (sent kept : List ℕ) (sound : (k : ℕ) → 1 ≤ k → k ≤ mostBlocks → (n : ℕ) → Sound s (passes (s .terms) x n) k sent)
+    (going : (n : ℕ) → outgoingOf (passes (s .terms) x n) ≡ Message h (length d)) (starts : front sent Send (length d) ≡ d)
+    (t : Settings) (r : Receiver) (rs : List ℕ) (fits : length rs ≡ 256) (w : ℕ → Pauses)
+    (sounds : (k : ℕ) → k < blockCount (length d) → (n : ℕ)
+    → Sound t (passes (t .terms) (received (t .terms) (ticksIn d w) r h d k .exchange) n) 1 (received (t .terms) (ticksIn d w) r h d k .room))
+    (time : InTime s t d w) where
+  -- what the receiver has of blocks 1 to k
+  abbrev got : ℕ → Receiver
+  got k = received (t .terms) (ticksIn d w) r h d k
 
-  -- the sender with block k on its way
+  sends : (n : ℕ) → isSending (passes (s .terms) x n) ≡ true
+  sends n = let y : Exchange = passes (s .terms) x n in sends-one (y .sending) y h (length d) (going n)
+
+  -- the sender with block k + 1 on its way
   sender : ℕ → End
-  sender k = endOf (unit s (WaitEot 0 0) kept x k) sent
+  sender k = endOf (unit s (WaitEot 0 0) kept (passes (s .terms) x (spent w k)) (suc k)) sent
 
   -- the received bytes, and the receiver, once blocks 1 to k came
   array : ℕ → List ℕ
@@ -169,81 +206,174 @@ module _ (o : List ℕ) (long : 257 ≤ length o) (h : Header) (d : List ℕ) (i
       omega (arith, length-append bs (drop (length bs) (array k)), length-drop (length bs) (array k))
 
   receiver : ℕ → End
-  receiver k = received-end t (array k) (received (t .terms) r h d k)
+  receiver k = received-end t (array k) (got k)
 
-  -- what the sender says to the ACK of block k
+  -- ---- block k + 1
+
+  -- its bytes on the line
+  abbrev bytes : ℕ → List ℕ
+  bytes k = blockOf (headerAt h (length d) (suc k)) (dataIn h d (suc k))
+
+  -- the receiver that has heard its ENQ, and the sender while it drains, and then
+  abbrev asked : ℕ → End
+  asked k = endOf (unit t (WaitLength 0) (array k) (passes (t .terms) (got k .exchange) (w (suc k) .enq)) 1) (got k .room)
+
+  abbrev draining : ℕ → End
+  draining k = endOf (unit s (Draining 0) kept (passes (s .terms) x (spent w k + w (suc k) .eot)) (suc k)) sent
+
+  abbrev waiting : ℕ → End
+  waiting k = endOf (unit s (WaitAck 0 0) kept (passes (s .terms) x (spent w k + w (suc k) .eot + w (suc k) .draining)) (suc k)) sent
+
+  -- what the receiver answers to it
+  abbrev taken : ℕ → Said
+  taken k =
+      let y = rests (t .terms) (ticksIn d w (suc k)) (got k) in
+      ack-of t (array (suc k)) 1 (judgeOf (t .terms) (y .exchange) (headerIn h d (suc k)) (dataIn h d (suc k)) (y .room))
+
+  -- and the sender to the ACK
   ends : ℕ → Said
-  ends k = hearsAll o (endOf (unit s (WaitAck 0 0) kept x k) sent) (ACK ∷ [])
+  ends k = hearsAll o (λ j. w (suc k) .ack) (waiting k) (ACK ∷ [])
+
+  module _ (k : ℕ) (less : k < blockCount (length d)) where
+    is : BlockOf d (suc k)
+    is = record { least = omega arith; most = less }
+
+    sender-sound : (n : ℕ) → Sound s (passes (s .terms) x n) (suc k) sent
+    sender-sound = let at-most = few h d i short in sound (suc k) (omega arith) (omega arith)
+
+    asked-so : hearsAll o (λ j. w (suc k) .enq) (receiver k) (ENQ ∷ []) ≡ said (asked k) (EOT ∷ [])
+    unfolding receiver
+    asked-so = enq-heard o long t (got k .exchange) 1 (got k .room) (sounds k less) (array k) (w (suc k) .enq)
+
+    block-so : hearsAll o (λ j. w (suc k) .eot) (sender k) (EOT ∷ []) ≡ said (draining k) (bytes k)
+    unfolding sender
+    block-so =
+        let n : ℕ = suc k in
+        let m : ℕ = spent w k + w n .eot in
+        eot-heard o long s x n sent kept sender-sound (spent w k) (w n .eot) (time .eot n is)
+        ∙ ap (said (draining k))
+        (ap (λ (z : Outgoing). blockIn z n sent) (going m) ∙ block-out h d i short n (omega arith) less sent (sender-sound 0 .whole) starts)
+
+    taken-so : hearsAll o (w (suc k) .byte) (asked k) (bytes k) ≡ taken k
+    unfolding array
+    taken-so =
+        let n : ℕ = suc k in
+        let p : Pauses = w n in
+        let y : Receiver = got k in
+        let size = data-length h d i short n (omega arith) less in
+        taken-up o long t (y .exchange) (y .room) (array k) (sounds k less) (p .byte) (p .enq) (headerAt h (length d) n) (dataIn h d n) (array-fits k (omega arith))
+        (header-in-range h d i short n (omega arith) less) (data-bytes h d i short n (omega arith) less b) (data-most h d i short n (omega arith) less)
+        (time .size n is) (λ j least under. time .body n is j least (omega (arith, size)))
+        ∙ ap
+        (λ (e : ℕ).
+        ack-of t (overwritten (array k) (headerIn h d n ++ dataIn h d n)) 1
+        (judgeOf (t .terms) (passes (t .terms) (y .exchange) (p .enq + total (p .byte) (1 + (10 + e) + 2))) (headerIn h d n) (dataIn h d n) (y .room)))
+        size
+
+    gone-so : drainsLate o (w (suc k) .draining) (draining k) ≡ said (waiting k) []
+    gone-so = drained o long s x (suc k) sent kept sender-sound (spent w k + w (suc k) .eot) (w (suc k) .draining)
+
+    -- each but the last has the next behind it
+    next-so : suc k < blockCount (length d) → ends k ≡ said (sender (suc k)) (ENQ ∷ [])
+    unfolding ends sender spent
+    next-so more =
+        let m : ℕ = spent w (suc k) in
+        let next : hasNext (unit s Idle kept (passes (s .terms) x m) (suc k)) ≡ true =
+        ap (λ (z : Outgoing). nextIn z (suc k)) (going m) ∙ lt-ltb (suc k) (blockCount (length d)) more in
+        next-asked o long s x (suc k) sent kept sender-sound (spent w k + w (suc k) .eot + w (suc k) .draining) (w (suc k) .ack) (time .ack (suc k) is) (sends m) next
+        ∙ ap (λ (e : ℕ). said (endOf (unit s (WaitEot 0 0) kept (passes (s .terms) x m) e) sent) (ENQ ∷ [])) (add-one (suc k))
+
+    -- behind the last there is none
+    last-so : suc k ≡ blockCount (length d) → ends k ≡ said (idle-end s kept (sentOf (passes (s .terms) x (spent w (suc k))) .exchange) sent) []
+    unfolding ends spent
+    last-so e =
+        let m : ℕ = spent w (suc k) in
+        let last : hasNext (unit s Idle kept (passes (s .terms) x m) (suc k)) ≡ false =
+        ap (λ (z : Outgoing). nextIn z (suc k)) (going m) ∙ le-ltb (suc k) (blockCount (length d)) (omega arith) in
+        all-sent o long s x (suc k) sent kept sender-sound (spent w k + w (suc k) .eot + w (suc k) .draining) (w (suc k) .ack) (time .ack (suc k) is) (sends m) last
 
   -- the notes so far
   notes : ℕ → List ℕ
-  notes k = received (t .terms) r h d k .notes
+  notes k = got k .notes
 
   -- both ends, once the receiver judged block k + 1 and the sender said this to its ACK
   both : ℕ → Said → Pair
-  both k z =
-      let y = received (t .terms) r h d k in
-      let judged = judgeOf (t .terms) (y .exchange) (headerIn h d (suc k)) (dataIn h d (suc k)) (y .room) in
-      pair (z .end) (receiver (suc k)) (z .bytes) (notes k ++ (noteNumber (judged .answer .note) ∷ z .notes))
+  both k z = pair (z .end) (receiver (suc k)) (z .bytes) (notes k ++ (taken k .notes ++ z .notes))
 
-  block-carried : (k : ℕ) → k < blockCount (length d) → carried o (pair (sender (suc k)) (receiver k) (ENQ ∷ []) (notes k)) ≡ both k (ends (suc k))
-  unfolding sender receiver array ends notes both received
+  block-carried : (k : ℕ) → k < blockCount (length d)
+      → carried o (w (suc k)) (pair (sender k) (receiver k) (ENQ ∷ []) (notes k)) ≡ both k (ends k)
+  unfolding receiver ends notes both received
   block-carried k less =
-      let n : ℕ = suc k in
-      let at-most = few h d i short in
-      let a = sound n (omega arith) (omega arith) in
-      let c = sounds k less in
-      let y : Receiver = received (t .terms) r h d k in
-      let out : blockIn (outgoingOf x) n sent ≡ blockOf (headerAt h (length d) n) (dataIn h d n) =
-      ap (λ (z : Outgoing). blockIn z n sent) going ∙ block-out h d i short n (omega arith) less sent (a .whole) starts in
-      ap (on-enq o (notes k) (sender n)) (enq-heard o long t (y .exchange) 1 (y .room) c (array k))
-      ∙ ap (on-eot o (notes k) (said (endOf (unit t (WaitLength 0) (array k) (y .exchange) 1) (y .room)) (EOT ∷ [])))
-      (eot-heard o long s x n sent kept a ∙ ap (said (endOf (unit s (Draining 0) kept x n) sent)) out)
-      ∙ (λ z.
-      on-block o (notes k) [] [] (drained o long s x n sent kept a z)
-      (taken-up o long t (y .exchange) (y .room) (array k) c (headerAt h (length d) n) (dataIn h d n) (array-fits k (omega arith))
-      (header-in-range h d i short n (omega arith) less) (data-bytes h d i short n (omega arith) less b) (data-most h d i short n (omega arith) less) z))
+      let p : Pauses = w (suc k) in
+      ap (on-enq o p (notes k) (sender k)) (asked-so k less) ∙ ap (on-eot o p (notes k) (said (asked k) (EOT ∷ []))) (block-so k less)
+      ∙ (λ z. on-block o (p .ack) (notes k) [] [] (gone-so k less z) (taken-so k less z))
 
-  -- each but the last has the next behind it
   on-its-way : (k : ℕ) → k < blockCount (length d)
-      → carries o k (pair (sender 1) (receiver 0) (ENQ ∷ []) (notes 0)) ≡ pair (sender (suc k)) (receiver k) (ENQ ∷ []) (notes k)
-  unfolding carries sender ends both notes received
+      → carries o w k (pair (sender 0) (receiver 0) (ENQ ∷ []) (notes 0)) ≡ pair (sender k) (receiver k) (ENQ ∷ []) (notes k)
+  unfolding carries both notes received
   on-its-way zero less = refl
   on-its-way (suc k) less =
-      let at-most = few h d i short in
-      let next : nextIn (outgoingOf x) (suc k) ≡ true =
-      ap (λ (z : Outgoing). nextIn z (suc k)) going ∙ lt-ltb (suc k) (blockCount (length d)) less in
-      ap (carried o) (on-its-way k (omega arith)) ∙ block-carried k (omega arith)
-      ∙ ap (both k) (next-asked o long s x (suc k) sent kept (sound (suc k) (omega arith) (omega arith)) sends next)
-      ∙ ap (λ (m : ℕ). pair (sender m) (receiver (suc k)) (ENQ ∷ []) (notes (suc k))) (add-one (suc k))
+      ap (carried o (w (suc k))) (on-its-way k (omega arith)) ∙ block-carried k (omega arith) ∙ ap (both k) (next-so k (omega arith) less)
 
-  -- behind the last there is none
   at-last : (k : ℕ) → suc k ≡ blockCount (length d)
-      → carries o (suc k) (pair (sender 1) (receiver 0) (ENQ ∷ []) (notes 0))
-      ≡ pair (idle-end s kept (sentOf x .exchange) sent) (receiver (suc k)) [] (notes (suc k))
-  unfolding carries ends both notes received
+      → carries o w (suc k) (pair (sender 0) (receiver 0) (ENQ ∷ []) (notes 0))
+      ≡ pair (idle-end s kept (sentOf (passes (s .terms) x (spent w (suc k))) .exchange) sent) (receiver (suc k)) [] (notes (suc k))
+  unfolding carries both notes received
   at-last k e =
-      let at-most = few h d i short in
-      let last : nextIn (outgoingOf x) (suc k) ≡ false =
-      ap (λ (z : Outgoing). nextIn z (suc k)) going ∙ le-ltb (suc k) (blockCount (length d)) (omega arith) in
-      ap (carried o) (on-its-way k (omega arith)) ∙ block-carried k (omega arith)
-      ∙ ap (both k) (all-sent o long s x (suc k) sent kept (sound (suc k) (omega arith) (omega arith)) sends last)
+      ap (carried o (w (suc k))) (on-its-way k (omega arith)) ∙ block-carried k (omega arith) ∙ ap (both k) (last-so k (omega arith) e)
 
-  -- all of them
-  pub all-carried :
-      Arrived h d s x sent kept t r
-      (carries o (blockCount (length d)) (pair (endOf (unit s (WaitEot 0 0) kept x 1) sent) (received-end t rs r) (ENQ ∷ []) (r .notes)))
-  unfolding sender receiver array notes received
-  all-carried =
-      let n : ℕ = blockCount (length d) in
-      let one = some h d i short in
-      let e : suc (blockCount (length d) - 1) ≡ blockCount (length d) = omega arith in
-      record {
-        array = array n;
-        fits = array-fits n (omega arith);
-        so =
-            subst
-            (λ (m : ℕ).
-            carries o m (pair (sender 1) (receiver 0) (ENQ ∷ []) (notes 0)) ≡ pair (idle-end s kept (sentOf x .exchange) sent) (receiver m) [] (notes m))
-            e (at-last (n - 1) e);
-      }
+  -- ---- calls left both ends
+
+  module _ (here there : Track) (sends-here : Reaches here (endOf (unit s (WaitEot 0 0) kept x 1) sent))
+      (hears-there : Reaches there (received-end t rs r)) where
+    -- this end is what calls left, if that is
+    then-reaches : (v : Track) {y z : Said} → y ≡ z → Reaches v (y .end) → Reaches v (z .end)
+    then-reaches v e = subst (λ (z : Said). Reaches v (z .end)) e
+
+    ends-reach : (k : ℕ) → k < blockCount (length d) → Reaches here (sender k) → Reaches here (ends k .end)
+    unfolding ends
+    ends-reach k less r =
+        reaches-heard here (waiting k)
+        (then-reaches here (gone-so k less)
+        (reaches-drained here (draining k)
+        (then-reaches here (block-so k less) (reaches-heard here (sender k) r o (λ j. w (suc k) .eot) (EOT ∷ []) (one-byte EOT [] (omega arith) no-bytes))) o (w (suc k) .draining)))
+        o (λ j. w (suc k) .ack) (ACK ∷ []) (one-byte ACK [] (omega arith) no-bytes)
+
+    sender-reaches : (k : ℕ) → k < blockCount (length d) → Reaches here (sender k)
+    unfolding sender spent passes
+    sender-reaches zero less = sends-here
+    sender-reaches (suc k) less = then-reaches here (next-so k (omega arith) less) (ends-reach k (omega arith) (sender-reaches k (omega arith)))
+
+    sent-reaches : (k : ℕ) → suc k ≡ blockCount (length d) → Reaches here (idle-end s kept (sentOf (passes (s .terms) x (spent w (suc k))) .exchange) sent)
+    sent-reaches k e = then-reaches here (last-so k (omega arith) e) (ends-reach k (omega arith) (sender-reaches k (omega arith)))
+
+    receiver-reaches : (k : ℕ) → k ≤ blockCount (length d) → Reaches there (receiver k)
+    unfolding receiver array received
+    receiver-reaches zero less = hears-there
+    receiver-reaches (suc k) less =
+        then-reaches there (taken-so k less)
+        (reaches-heard there (asked k)
+        (then-reaches there (asked-so k less) (reaches-heard there (receiver k) (receiver-reaches k (omega arith)) o (λ j. w (suc k) .enq) (ENQ ∷ []) (one-byte ENQ [] (omega arith) no-bytes)))
+        o (w (suc k) .byte) (bytes k)
+        (line-bytes (headerAt h (length d) (suc k)) (dataIn h d (suc k)) (header-in-range h d i short (suc k) (omega arith) less)
+        (data-bytes h d i short (suc k) (omega arith) less b) (data-most h d i short (suc k) (omega arith) less)))
+
+    -- all of them
+    pub all-carried :
+        Arrived here there h d w s x sent kept t r
+        (carries o w (blockCount (length d)) (pair (endOf (unit s (WaitEot 0 0) kept x 1) sent) (received-end t rs r) (ENQ ∷ []) (r .notes)))
+    unfolding sender receiver array notes received spent passes
+    all-carried =
+        let n : ℕ = blockCount (length d) in
+        let one = some h d i short in
+        let e : suc (blockCount (length d) - 1) ≡ blockCount (length d) = omega arith in
+        let sent-end : ℕ → End = λ m. idle-end s kept (sentOf (passes (s .terms) x (spent w m)) .exchange) sent in
+        let so : carries o w n (pair (sender 0) (receiver 0) (ENQ ∷ []) (notes 0)) ≡ pair (sent-end n) (receiver n) [] (notes n) =
+        subst (λ (m : ℕ). carries o w m (pair (sender 0) (receiver 0) (ENQ ∷ []) (notes 0)) ≡ pair (sent-end m) (receiver m) [] (notes m)) e (at-last (n - 1) e) in
+        record {
+          array = array n;
+          so = so;
+          sender-reaches =
+              subst (λ (p : Pair). Reaches here (p .sender)) (sym so) (subst (λ (m : ℕ). Reaches here (sent-end m)) e (sent-reaches (n - 1) e));
+          receiver-reaches = subst (λ (p : Pair). Reaches there (p .receiver)) (sym so) (receiver-reaches n (omega arith));
+        }

@@ -1,219 +1,391 @@
--- A primary that is asked for at one end is the same message at the other (`specs/SameMessage.antt`). Assumes nothing.
-use Prim.Native.Nat.{ℕ, zero, suc, _≤_, _<_}
+-- A primary that is accepted at one end is the same message at the other (`specs/SameMessage.antt`). Assumes nothing.
+use Prim.Native.Nat.{ℕ, _+_, _%_, _≤_, _<_}
 use mathlib.Core.Path.{_≡_, refl, sym, ap, subst, _∙_}
-use mathlib.Core.Bool.{Bool, true, false, cond}
-use mathlib.Core.List.{List, _∷_}
+use mathlib.Core.Bool.{Bool, true, false, cond, not}
+use mathlib.Core.List.{List, [], _∷_}
+use mathlib.Core.Logic.{_≢_, inl, inr}
 use native.Mathlib.Omega.{arith}
-use lib.ListN.{length, replicate}
+use lib.Dec.{ltb, eqb}
+use lib.ListN.{length}
+use lib.Seq.{getD-set-same}
+use Rattle.wire.proofs.Choice.{either}
+use borrow.Author.Tests.{ltb-true, ltb-false, eqb-true, eqb-false}
 use Rattle.wire.specs.Message.{messageLimit}
 use Rattle.header.specs.Header.{InRange, headerBytes}
 use Rattle.header.specs.declared.header.Header.{Header}
 use Rattle.header.proofs.Headers.{header-and-back}
 use Rattle.cut.specs.Blocks.{blockCount}
-use Rattle.room.specs.Room.{keptIn, front}
+use Rattle.room.specs.Room.{front}
 use Rattle.room.specs.declared.Message.the-variants as message
+use Rattle.room.proofs.Keeping.{keeps-only}
 use Rattle.room.proofs.Reading.{front-read}
-use Rattle.place.specs.Own.{freshOwn, noReply, ended, acknowledged}
-use Rattle.place.specs.declared.OwnStage.{OwnStage}
-use Rattle.place.specs.declared.OwnStage.the-variants.{Awaiting, Done}
+use Rattle.line.specs.Codes.{ENQ}
+use Rattle.line.specs.Line.{freshLine}
+use Rattle.line.specs.declared.phase.Phase.the-variants.{Idle, WaitEot}
+use Rattle.settings.specs.declared.terms.Terms.{Terms}
+use Rattle.place.specs.Own.{freshOwn, noReply, primaryOf, ended, acknowledged, ownSent, ownTick}
+use Rattle.place.specs.Incoming.{primaryOf as incomingPrimary, incomingIsFree, incomingIsOpen, incomingLength}
+use Rattle.place.specs.declared.Incoming.{Incoming}
+use Rattle.place.specs.declared.OwnStage.the-variants.{Sending, Awaiting, Done}
+use Rattle.place.specs.declared.Own.{Own}
 use Rattle.place.specs.declared.Verdict.the-variants.{Sent}
 use Rattle.place.specs.declared.Standing.the-variants.{Open, Given}
-use Rattle.table.specs.Number.{nextNumber}
+use Rattle.place.proofs.OwnInvariant.{Waits, At}
+use Rattle.place.proofs.OwnAlways.{always}
 use Rattle.table.proofs.Giving.{number-given}
-use Rattle.exchange.specs.Exchange.{freshExchange, putOwn, withSending}
-use Rattle.exchange.specs.Send.{outgoingOf, endedOwn, sentOf}
-use Rattle.exchange.specs.Request.{Requesting, requesting, sendingBy, primaryHeader, claimedAt, openOf, primary}
-use Rattle.exchange.specs.Reading.{wanted, ownReading, incomingReading}
+use Rattle.exchange.specs.Exchange.{ownPlace, incomingPlace, putOwn, withSending}
+use Rattle.exchange.specs.Send.{outgoingAt, outgoingOf, endedOwn, sentBy, sentOf}
+use Rattle.exchange.specs.Request.{askedNumber, sendingBy, primary, answerOf}
+use Rattle.exchange.specs.Reading.{wanted, ownReading, replyStage, incomingReading}
+use Rattle.exchange.specs.Rules.{Fours}
+use Rattle.exchange.specs.Releases as side
+use Rattle.exchange.specs.Refusals.{OpenRuled, open-0, open-5, open-6, open-7, open-8, numberGiven, Opened}
 use Rattle.exchange.specs.History.{request}
-use Rattle.exchange.specs.Assembly.{headerIn, dataIn, Receiver, freshReceiver, received, Assembled}
+use Rattle.exchange.specs.Assembly.{Receiver, receiverOf, passes, received, ReadyFor, Assembled}
 use Rattle.exchange.proofs.BeingSent.{sending-ends}
+use Rattle.exchange.proofs.Refusing.{request-exactly}
+use Rattle.exchange.proofs.Accepting.{accepted-opens}
+use Rattle.exchange.proofs.Numbering.{read}
+use Rattle.exchange.proofs.Passing.{saved-stays, sending-stays, kept-on}
+use Rattle.exchange.proofs.SavedHeader.{sent-saves}
 use Rattle.exchange.proofs.Assembling.{assembly-of-cut}
+use Rattle.exchange.specs.declared.Sending.{Sending as Sending'}
+use Rattle.exchange.specs.declared.Sending.the-variants as sending
 use Rattle.exchange.specs.declared.Exchange.{Exchange}
 use Rattle.exchange.specs.declared.OwnReading.the-variants as own
 use Rattle.exchange.specs.declared.IncomingReading.{IncomingReading}
 use Rattle.exchange.specs.declared.IncomingReading.the-variants as incoming
 use Rattle.exchange.specs.declared.ReplyStage.{ReplyStage}
+use Rattle.exchange.specs.declared.ReplyStage.the-variants as reply
 use Rattle.exchange.specs.declared.Asked.the-variants as asked
 use Rattle.exchange.specs.declared.Primary.{Primary}
 use Rattle.exchange.specs.declared.Outgoing.the-variants.{Message}
-use Rattle.settings.specs.declared.terms.Terms.{Terms}
-use Rattle.link.specs.State.{startOf}
-use Rattle.link.specs.Refusals.{SetupFits, inTicks}
 use Rattle.link.specs.Call.{openCall}
-use Rattle.link.specs.Reading.{messageBy}
-use Rattle.link.specs.SameMessage.{End, endOf, Said, carries, puts, outward, fresh, Linked, Lent, Sendable, Carriable, AsAsked, Delivered, SameMessage}
-use Rattle.link.specs.declared.Setup.{Setup}
+use Rattle.link.specs.Reading.{ownOf, messageBy}
+use Rattle.link.specs.History.{Track, exchangeTrack, termsIn}
+use Rattle.link.specs.Inside.{Reached}
+use Rattle.link.specs.SameMessage.{End, endOf, Said, saidBy, Pair, Pauses, carries, puts, outward, ticksIn, ticksInAll, InTime, Linked, Lent, Typed, Again, AsAsked, Awaited, laterBy, Delivered, GoesOut, SameMessage}
+use Rattle.link.specs.declared.Settings.{Settings}
 use Rattle.link.specs.declared.Outcome.the-variants.{Taken}
 use Rattle.link.specs.declared.Link.{Link}
-use Rattle.link.proofs.refusals.Start.{start-exactly}
-use Rattle.link.proofs.same_message.Calls.{Sound}
-use Rattle.link.proofs.same_message.Carries.{idle-end, Arrived, all-carried}
-use Rattle.link.proofs.same_message.Stands.{started, Stands, stands-fresh, stands-next, stands-received, stands-sound}
-use Rattle.link.proofs.same_message.Asks.{asked-taken, asked-said, send-starts, opened-first}
+use Rattle.link.proofs.inside.Places.{exchange-inside, places-inside}
+use Rattle.link.proofs.numbers.Kept.{numbers-kept}
+use Rattle.link.proofs.same_message.Calls.{said, unit, Sound, waits-said, idle-counts}
+use Rattle.link.proofs.same_message.Reaches.{Reaches, reaches-itself, reaches-asked, meet-again}
+use Rattle.link.proofs.same_message.Carries.{idle-end, spent, Arrived, all-carried}
+use Rattle.link.proofs.same_message.Stands.{Stands, stands-next, stands-later, stands-fours, stands-received, received-size, settings-fit, settings-are, stands, array-fits, sound, not-sending, idles}
+use Rattle.link.proofs.same_message.Asks.{taken-inside, asked-said, send-starts}
 
--- ---- the primary at its sender
+-- ---- a primary that is accepted
 
--- its number, and its header
-abbrev number : Setup → ℕ
-number a = nextNumber (replicate 4 freshOwn) (a .last) 0
+-- it is refused neither by 5, "stream above 127; function even in a primary", nor by 6, "data above 4,096 bytes"
+record Sendable (q : Primary) (d : List ℕ) : Type 0 where
+  pub stream : q .stream ≤ 127
+  pub odd : q .function % 2 ≡ 1
+  pub short : length d ≤ messageLimit
 
-abbrev pub header : Setup → Primary → Header
-header a q = primaryHeader (inTicks a .terms) q (number a)
+sendable : (c : Terms) (x : Exchange) (q : Primary) (d room : List ℕ) (p : ℕ) → Fours x → answerOf c x (primary q d) room .answer .asked ≡ asked.Taken p → Sendable q d
+sendable c x q d room p four e = by refl (request-exactly c x (primary q d) room four 0 .0 (ap askedNumber e))
+  where
+    by : {n : ℕ} → n ≡ 0 → OpenRuled x q d n → Sendable q d
+    by z (open-5 bad) = absurd (omega (arith, z))
+    by z (open-6 bad long) = absurd (omega (arith, z))
+    by z (open-7 bad long s) = absurd (omega (arith, z))
+    by z (open-8 bad long s f) = absurd (omega (arith, z))
+    by z (open-0 bad long s f) = record {
+      stream = either (ltb 127 (q .stream)) (λ t. q .stream ≤ 127) (λ t. absurd (bad (inl (ltb-true 127 (q .stream) t)))) (λ t. ltb-false 127 (q .stream) t);
+      odd =
+          let odd : q .function % 2 ≢ 0 = λ even. bad (inr even) in
+          either (eqb (q .function % 2) 0) (λ t. q .function % 2 ≡ 1) (λ t. absurd (odd (eqb-true (q .function % 2) 0 t)))
+          (λ t. let not-zero = eqb-false (q .function % 2) 0 t in omega arith);
+      short = either (ltb messageLimit (length d)) (λ t. length d ≤ messageLimit) (λ t. absurd (long (ltb-true messageLimit (length d) t))) (λ t. ltb-false messageLimit (length d) t);
+    }
 
--- the transactions that send it
-abbrev pub sends : Setup → Primary → List ℕ → Exchange
-sends a q d = claimedAt (inTicks a .terms) (freshExchange (a .last)) 0 q (length d)
+-- the place of a primary with header h that is being sent
+abbrev placed : Header → Own
+placed h = record { header = headerBytes h; stage = Sending }
 
--- and the room with its data in the send area
-abbrev pub lying : List ℕ → List ℕ → List ℕ
-lying room d = keptIn room message.Send 0 d
+module _ (c : Terms) (y : Exchange) (p n : ℕ) (h : Header) (i : InRange h) (is-sent : y .sending ≡ sending.Primary p n) (here : ownPlace y p ≡ placed h) where
+  -- no tick changes it
+  stays-placed : (m : ℕ) → ownPlace (passes c y m) p ≡ placed h
+  stays-placed = kept-on side.own c y p (λ (o : Own). o ≡ placed h) (λ o e. ap (ownTick c) e) here
 
-number-fits : (a : Setup) → a .last ≤ 65535 → number a < 65536
-number-fits a last = omega (arith, number-given (replicate 4 freshOwn) (a .last) 0 refl last .fits)
-
-header-range : (a : Setup) (q : Primary) → SetupFits a → a .last ≤ 65535 → Sendable q → InRange (header a q)
-header-range a q f last w = record {
-  device = omega (arith, f .device-most);
-  stream = omega (arith, w .stream);
-  function = w .function;
-  number = omega arith;
-  system = omega (arith, w .source, number-fits a last);
-}
-
-pub as-asked : (a : Setup) (q : Primary) → a .last ≤ 65535 → AsAsked q (header a q)
-as-asked a q last = record { w = refl; stream = refl; function = refl; number = number a; number-fits = number-fits a last; system = refl }
-
--- what becomes of its place once it is sent
-abbrev stage-by : Bool → OwnStage
-stage-by true = Awaiting 0
-stage-by false = Done Sent noReply
-
-module _ (a : Setup) (q : Primary) (d : List ℕ) (i : InRange (header a q)) where
   -- it is what goes out
-  pub goes-out : outgoingOf (sends a q d) ≡ Message (header a q) (length d)
-  unfolding claimedAt
-  goes-out = ap (λ (h : Header). Message h (length d)) (header-and-back (header a q) i)
+  goes-out : (m : ℕ) → outgoingOf (passes c y m) ≡ Message h n
+  goes-out m =
+      ap (λ (z : Sending'). outgoingAt z (passes c y m)) (sending-stays c y m ∙ is-sent)
+      ∙ ap (λ (o : Own). Message (primaryOf o) n) (stays-placed m) ∙ ap (λ (g : Header). Message g n) (header-and-back h i)
 
-  pub own-after : (w : Bool) → q .w ≡ w
-      → sentOf (sends a q d) .exchange .own ≡ record { header = headerBytes (header a q); stage = stage-by w } ∷ replicate 3 freshOwn
-  unfolding claimedAt endedOwn putOwn withSending acknowledged ended
-  own-after true e = rw (header-and-back (header a q) i, e)
-  own-after false e = rw (header-and-back (header a q) i, e)
-
-  standing-after : ownReading (sentOf (sends a q d) .exchange) 0 ≡ own.Place (header a q) (cond (q .w) Open (Given Sent)) noReply
+  shown-open : ownReading y p ≡ own.Place h Open noReply
   unfolding ownReading
-  standing-after = by (q .w) refl
-    where
-      by : (w : Bool) → q .w ≡ w → ownReading (sentOf (sends a q d) .exchange) 0 ≡ own.Place (header a q) (cond w Open (Given Sent)) noReply
-      by true e = rw (own-after true e, header-and-back (header a q) i)
-      by false e = rw (own-after false e, header-and-back (header a q) i)
+  shown-open = ap read here ∙ ap (λ (g : Header). own.Place g Open noReply) (header-and-back h i)
+
+  -- what becomes of its place once it is sent
+  module _ (m : ℕ) (four : length (passes c y m .own) ≡ 4) (within : p < 4) where
+    sent-place : ownPlace (sentOf (passes c y m) .exchange) p ≡ ownSent (placed h)
+    unfolding endedOwn putOwn withSending
+    sent-place =
+        let x : Exchange = passes c y m in
+        ap (λ (z : Sending'). ownPlace (sentBy z x .exchange) p) (sending-stays c y m ∙ is-sent)
+        ∙ getD-set-same (x .own) p (ownSent (ownPlace x p)) freshOwn (omega arith) ∙ ap ownSent (stays-placed m)
+
+    -- W is what was asked for
+    asked-so : primaryOf (placed h) .w ≡ h .w
+    asked-so = ap (λ (g : Header). g .w) (header-and-back h i)
+
+    awaits-reply : h .w ≡ true → ownPlace (sentOf (passes c y m) .exchange) p ≡ record { header = headerBytes h; stage = Awaiting 0 }
+    unfolding acknowledged ended
+    awaits-reply wants =
+        sent-place ∙ ap (λ (v : Bool). cond v (record { header = headerBytes h; stage = Awaiting 0 }) (record { header = headerBytes h; stage = Done Sent noReply })) (asked-so ∙ wants)
+
+    sent-shown : ownReading (sentOf (passes c y m) .exchange) p ≡ own.Place h (cond (h .w) Open (Given Sent)) noReply
+    unfolding ownReading acknowledged ended
+    sent-shown = ap read sent-place ∙ ap (λ (v : Bool). read (becomes v)) asked-so ∙ by (h .w)
+      where
+        becomes : Bool → Own
+        becomes v = cond v (record { header = headerBytes h; stage = Awaiting 0 }) (record { header = headerBytes h; stage = Done Sent noReply })
+
+        by : (v : Bool) → read (becomes v) ≡ own.Place h (cond v Open (Given Sent)) noReply
+        by true = ap (λ (g : Header). own.Place g Open noReply) (header-and-back h i)
+        by false = ap (λ (g : Header). own.Place g (Given Sent) noReply) (header-and-back h i)
+
+-- what its onlooker has seen of a place that awaits a reply
+seen-waits : (v : Track) → Reached v → (p : ℕ) → p < 4 → (b : List ℕ) (n : ℕ) → ownPlace (v .link .exchange) p ≡ record { header = b; stage = Awaiting n }
+    → Waits (termsIn v) b (v .own p) n
+seen-waits v w p within b n e =
+    subst (λ (o : Own). At (termsIn v) (o .stage) (o .header) (v .own p)) e (always (termsIn v) _ (places-inside v w .own p within))
 
 -- ---- the message at its receiver
 
--- what came of it by its blocks 1 to k
-abbrev pub came : Setup → Setup → List ℕ → Primary → List ℕ → ℕ → Receiver
-came a b far q d k = received (inTicks b .terms) (freshReceiver (b .last) far) (header a q) d k
-
--- what is received changes nothing of what is being sent
-pub still-sending : (c : Terms) (r : Receiver) (h : Header) (d : List ℕ) (k : ℕ) → received c r h d k .exchange .sending ≡ r .exchange .sending
-unfolding received
-still-sending c r h d zero = refl
-still-sending c r h d (suc k) =
-    sending-ends c (received c r h d k .exchange) .judged (headerIn h d (suc k)) (dataIn h d (suc k)) (received c r h d k .room) ∙ still-sending c r h d k
-
 -- a message of which an area begins with the bytes is read so
-pub message-read : (y : Exchange) (room : List ℕ) (h : Header) (d : List ℕ) (s : ReplyStage) → length room ≡ 36864 → length d ≤ messageLimit
-    → incomingReading y 0 ≡ incoming.Place h (length d) true s → front room (message.Incoming 0) (length d) ≡ d → messageBy (incomingReading y 0) room 0 ≡ d
-message-read y room h d s whole short complete starts =
-    ap (λ (z : IncomingReading). messageBy z room 0) complete
-    ∙ front-read room (message.Incoming 0) (length d) (record { whole = whole; place = omega arith; within = omega arith }) ∙ starts
+pub message-read : (y : Exchange) (room : List ℕ) (p : ℕ) (h : Header) (d : List ℕ) (s : ReplyStage) → p < 4 → length room ≡ 36864 → length d ≤ messageLimit
+    → incomingReading y p ≡ incoming.Place h (length d) true s → front room (message.Incoming p) (length d) ≡ d → messageBy (incomingReading y p) room p ≡ d
+message-read y room p h d s within whole short complete starts =
+    ap (λ (z : IncomingReading). messageBy z room p) complete
+    ∙ front-read room (message.Incoming p) (length d) (record { whole = whole; place = omega arith; within = omega arith }) ∙ starts
+
+-- a place is read by what it is
+abbrev pub incomingRead : Incoming → IncomingReading
+incomingRead i = cond (incomingIsFree i) incoming.NoPlace (incoming.Place (incomingPrimary i) (incomingLength i) (not (incomingIsOpen i)) (replyStage i))
+
+pub own-read : (x y : Exchange) (p : ℕ) → ownPlace x p ≡ ownPlace y p → ownReading x p ≡ ownReading y p
+unfolding ownReading
+own-read x y p e = ap read e
+
+pub incoming-read : (x y : Exchange) (p : ℕ) → incomingPlace x p ≡ incomingPlace y p → incomingReading x p ≡ incomingReading y p
+unfolding incomingReading
+incoming-read x y p e = ap incomingRead e
+
+-- ---- an idle end
+
+-- what ticks alone leave of it
+pub later-is : (t : Track) (w : Reached t) → t .link .line ≡ freshLine → (room o : List ℕ) → length room ≡ 36864 → 257 ≤ length o → (n : ℕ)
+    → laterBy o (t .link) room n .exchange ≡ passes (termsIn t) (t .link .exchange) n
+unfolding passes
+later-is t w idle room o whole long n =
+    let s : Settings = t .link .settings in
+    let x : Exchange = t .link .exchange in
+    let e : 0 + n ≡ n = omega arith in
+    ap (λ (u : Link). laterBy o u room n .exchange) (idles t w idle)
+    ∙ ap (λ (z : Said). z .end .link .exchange)
+    (waits-said s x 1 room o long (sound t w x (stands t w) room whole 1 (omega arith) (omega arith)) (λ i. Idle) (t .link .received) 0 n (idle-counts (s .limits) n))
+    ∙ ap (passes (termsIn t) x) e
 
 -- ---- both
 
--- a unit as it starts
-started-as : (a : Setup) (room : List ℕ) → SetupFits a → fresh a room ≡ idle-end (inTicks a) (replicate 256 0) (freshExchange (a .last)) room
-started-as a room f = ap (λ (u : Link). endOf u room) (start-exactly .accepted a f .link)
+module _ (a b : Track) (l : Linked a b) (room far o : List ℕ) (m : Lent room far o) (q : Primary) (d : List ℕ) (typed : Typed q d)
+    (p : ℕ) (accepted : openCall (a .link) q d room o .answer .outcome ≡ Taken p) where
+  abbrev s : Settings
+  s = a .link .settings
 
-module _ (a b : Setup) (l : Linked a b) (room far o : List ℕ) (m : Lent room far o) (q : Primary) (w : Sendable q) (d : List ℕ) (e : Carriable d) where
-  pub range : InRange (header a q)
-  range = header-range a q (started a (l .one)) (l .last) w
+  abbrev x : Exchange
+  x = a .link .exchange
 
-  taken : openOf (inTicks a .terms) (freshExchange (a .last)) q d room ≡ requesting (record { exchange = sends a q d; asked = asked.Taken 0 }) (lying room d)
-  taken = opened-first (inTicks a .terms) (a .last) q d room w (e .short)
+  abbrev t : Settings
+  t = b .link .settings
 
-  -- the transactions of both, while it is carried
-  fresh-stands : Stands (inTicks a .terms) (freshExchange (a .last)) room
-  fresh-stands = stands-fresh (inTicks a .terms) (a .last) room (m .here)
+  four : Fours x
+  four = stands-fours (s .terms) x (stands a (l .one))
 
-  pub sender-stands : Stands (inTicks a .terms) (sends a q d) (lying room d)
-  sender-stands =
-      subst (λ (z : Requesting). Stands (inTicks a .terms) (z .answer .exchange) (z .room)) taken
-      (stands-next (inTicks a .terms) (freshExchange (a .last)) room (request (primary q d)) fresh-stands)
+  taken : answerOf (s .terms) x (primary q d) room .answer .asked ≡ asked.Taken p
+  taken = taken-inside (a .link) (primary q d) room o p accepted
 
-  pub receiver-stands : (k : ℕ) → Stands (inTicks b .terms) (came a b far q d k .exchange) (came a b far q d k .room)
-  receiver-stands =
-      stands-received (inTicks b .terms) (freshReceiver (b .last) far) (header a q) d (stands-fresh (inTicks b .terms) (b .last) far (m .there))
+  fits : Sendable q d
+  fits = sendable (s .terms) x q d room p four taken
 
-  pub receiver-sound : (k : ℕ) → Sound (inTicks b) (came a b far q d k .exchange) 1 (came a b far q d k .room)
-  receiver-sound k =
-      stands-sound b (started b (l .other)) (came a b far q d k .exchange) (came a b far q d k .room) (receiver-stands k) 1 (omega arith) (omega arith)
+  -- the transactions that send it, and the room with its data in the send area
+  abbrev y : Exchange
+  y = answerOf (s .terms) x (primary q d) room .answer .exchange
 
-  -- it is accepted
-  open-sound : Sound (inTicks a) (freshExchange (a .last)) 1 room
-  open-sound = stands-sound a (started a (l .one)) (freshExchange (a .last)) room fresh-stands 1 (omega arith) (omega arith)
+  abbrev sent : List ℕ
+  sent = answerOf (s .terms) x (primary q d) room .room
 
-  accepted : openCall (startOf a .link) q d room o .answer .outcome ≡ Taken 0
-  accepted =
-      ap (λ (z : End). openCall (z .link) q d room o .answer .outcome) (started-as a room (started a (l .one)))
-      ∙ asked-taken (inTicks a) (freshExchange (a .last)) 1 room (replicate 256 0) o (m .out) open-sound (primary q d) refl (sends a q d) 0 (lying room d) taken
+  opened : Opened (s .terms) x q d room p y sent
+  opened = accepted-opens (s .terms) x q d room four p taken
 
-  -- and carried
-  pub arrives : Arrived (header a q) d (inTicks a) (sends a q d) (lying room d) (replicate 256 0) (inTicks b) (freshReceiver (b .last) far)
-      (outward o (fresh a room) (fresh b far) q d)
-  arrives =
-      let n : ℕ = blockCount (length d) in
-      let away : End = idle-end (inTicks b) (replicate 256 0) (freshExchange (b .last)) far in
-      subst (Arrived (header a q) d (inTicks a) (sends a q d) (lying room d) (replicate 256 0) (inTicks b) (freshReceiver (b .last) far))
-      (sym
-      ((λ i. outward o (started-as a room (started a (l .one)) i) (started-as b far (started b (l .other)) i) q d)
-      ∙ ap (λ (z : Said). carries o n (puts z away))
-      (asked-said (inTicks a) (freshExchange (a .last)) 1 room (replicate 256 0) o (m .out) open-sound (primary q d) refl (sends a q d) 0 (lying room d) taken)))
-      (all-carried o (m .out) (header a q) d range (e .bytes) (e .short)
-      (inTicks a) (sends a q d) (lying room d) (replicate 256 0) (stands-sound a (started a (l .one)) (sends a q d) (lying room d) sender-stands)
-      (goes-out a q d range) (send-starts room d (m .here) (e .short))
-      (inTicks b) (freshReceiver (b .last) far) (replicate 256 0) refl (λ k less. receiver-sound k))
+  abbrev h : Header
+  h = opened .header
 
-  -- the receiver has it
-  pub assembled : Assembled (header a q) d (came a b far q d (blockCount (length d)))
-  assembled =
-      assembly-of-cut (inTicks b .terms) (b .last) far (header a q) d (m .there) range (record { r = sym (l .roles); device = sym (l .device) }) (w .odd) (e .short)
+  number-fits : numberGiven x < 65536
+  number-fits = omega (arith, number-given (x .own) (x .numbers .last) (x .numbers .latest) (four .own) (numbers-kept a (l .one) (l .last) .fits) .fits)
 
-  delivered : Delivered q d (outward o (fresh a room) (fresh b far) q d)
-  unfolding wanted
-  delivered =
-      let n : ℕ = blockCount (length d) in
-      let r : Receiver = came a b far q d n in
-      let z = assembled in
-      subst (Delivered q d) (sym (arrives .so))
-      (record {
-        quiet = record {
-          none = refl;
-          line = refl;
-          far-line = refl;
-          sending = ap sendingBy (sending-ends (inTicks a .terms) (sends a q d) .acknowledged);
-          far-sending = ap sendingBy (still-sending (inTicks b .terms) (freshReceiver (b .last) far) (header a q) d n);
-        };
-        primary = header a q;
-        as-asked = as-asked a q (l .last);
-        standing = standing-after a q d range;
-        message = z .primary;
-        complete = z .complete;
-        same = z .same;
-        bytes = message-read (r .exchange) (r .room) (z .primary) d (wanted (header a q)) (receiver-sound n .whole) (e .short) (z .complete) (z .bytes);
-        notes = z .notes;
-        others = z .others;
-        owns = z .owns;
-      })
+  range : InRange h
+  range =
+      let e = opened .as-asked in
+      let small : s .terms .device ≤ 32767 = subst (λ (z : Settings). z .terms .device ≤ 32767) (sym (settings-are a (l .one))) (settings-fit a (l .one) .device-most) in
+      record {
+        device = omega (arith, e .device);
+        stream = omega (arith, e .stream, fits .stream);
+        function = omega (arith, e .function, typed .function);
+        number = omega (arith, e .number);
+        system = omega (arith, e .system, typed .source, number-fits);
+      }
+
+  as-asked : AsAsked q h
+  as-asked =
+      let e = opened .as-asked in
+      record { w = e .w; stream = e .stream; function = e .function; number = numberGiven x; number-fits = number-fits; system = e .system }
+
+  -- the transactions of both stand, while it is carried
+  sender-stands : Stands (s .terms) y
+  sender-stands = stands-next (s .terms) x room (request (primary q d)) (stands a (l .one))
+
+  sent-whole : length sent ≡ 36864
+  sent-whole = ap length (opened .kept) ∙ keeps-only room message.Send 0 d .size ∙ m .here
+
+  -- the end that asks
+  here-sound : (n : ℕ) → Sound s (passes (s .terms) x n) 1 room
+  here-sound = sound a (l .one) x (stands a (l .one)) room (m .here) 1 (omega arith) (omega arith)
+
+  asks : saidBy (openCall (a .link) q d room o) ≡ said (endOf (unit s (WaitEot 0 0) (a .link .received) y 1) sent) (ENQ ∷ [])
+  unfolding passes
+  asks =
+      ap (λ (u : Link). saidBy (openCall u q d room o)) (idles a (l .one) (l .line))
+      ∙ asked-said s x 1 room (a .link .received) o (m .out) (here-sound 0) (primary q d) refl p taken
+
+  module _ (takes : ReadyFor (t .terms) (b .link .exchange) h d) (w : ℕ → Pauses) (time : InTime s t d w) where
+    -- what came of it by its blocks 1 to k
+    came : ℕ → Receiver
+    came k = received (t .terms) (ticksIn d w) (receiverOf (b .link .exchange) far) h d k
+
+    came-whole : (k : ℕ) → length (came k .room) ≡ 36864
+    unfolding came
+    came-whole k = received-size (t .terms) (ticksIn d w) (receiverOf (b .link .exchange) far) h d k ∙ m .there
+
+    assembled : Assembled (t .terms) (ticksIn d w) (b .link .exchange) h d (came (blockCount (length d)))
+    unfolding came
+    assembled =
+        let e = exchange-inside b (l .other) in
+        let z = opened .as-asked in
+        assembly-of-cut (t .terms) (exchangeTrack b (e .room)) (e .reached) (ticksIn d w) far h d (m .there) range
+        (record { r = z .r ∙ sym (l .roles); device = z .device ∙ sym (l .device) })
+        (ap (λ (n : ℕ). n % 2) (z .function) ∙ fits .odd) (fits .short) takes (time .blocks)
+
+    -- it is carried
+    arrives : Arrived a b h d w s y sent (a .link .received) t (receiverOf (b .link .exchange) far) (outward o w (endOf (a .link) room) (endOf (b .link) far) q d)
+    arrives =
+        let n : ℕ = blockCount (length d) in
+        let r : Receiver = receiverOf (b .link .exchange) far in
+        subst (Arrived a b h d w s y sent (a .link .received) t r)
+        (sym (λ i. carries o w n (puts (asks i) (endOf (idles b (l .other) (l .far-line) i) far))))
+        (all-carried o (m .out) h d range (typed .bytes) (fits .short) s y sent (a .link .received)
+        (sound a (l .one) y sender-stands sent sent-whole)
+        (goes-out (s .terms) y p (length d) h range (opened .sending) (opened .place))
+        (ap (λ (z : List ℕ). front z message.Send (length d)) (opened .kept) ∙ send-starts room d (m .here) (fits .short))
+        t r (b .link .received) (array-fits b (l .other)) w
+        (λ k less.
+        sound b (l .other) (received (t .terms) (ticksIn d w) r h d k .exchange)
+        (stands-received (t .terms) (ticksIn d w) r h d (stands b (l .other)) k)
+        (received (t .terms) (ticksIn d w) r h d k .room) (received-size (t .terms) (ticksIn d w) r h d k ∙ m .there) 1 (omega arith) (omega arith))
+        time a b
+        (subst (λ (z : Said). Reaches a (z .end)) asks (reaches-asked a (endOf (a .link) room) (reaches-itself a room) o (primary q d)))
+        (subst (λ (u : Link). Reaches b (endOf u far)) (idles b (l .other) (l .far-line)) (reaches-itself b far)))
+
+    -- the sender then, and both ends
+    abbrev done : Exchange
+    done = sentOf (passes (s .terms) y (spent w (blockCount (length d)))) .exchange
+
+    abbrev sender : End
+    sender = idle-end s (a .link .received) done sent
+
+    abbrev receiver : End
+    receiver = idle-end t (arrives .array) (came (blockCount (length d)) .exchange) (came (blockCount (length d)) .room)
+
+    again : Again o sender receiver
+    unfolding came
+    again =
+        meet-again a b l o sender receiver (subst (λ (z : Pair). Reaches a (z .sender)) (arrives .so) (arrives .sender-reaches))
+        (subst (λ (z : Pair). Reaches b (z .receiver)) (arrives .so) (arrives .receiver-reaches)) refl refl refl refl
+        (record { here = sent-whole; there = came-whole (blockCount (length d)); out = m .out })
+
+    own-four : length (passes (s .terms) y (spent w (blockCount (length d))) .own) ≡ 4
+    own-four =
+        let n : ℕ = spent w (blockCount (length d)) in
+        stands-fours (s .terms) (passes (s .terms) y n) (stands-later (s .terms) y sender-stands n) .own
+
+    -- own place p
+    standing : ownReading done p ≡ own.Place h (cond (q .w) Open (Given Sent)) noReply
+    standing =
+        sent-shown (s .terms) y p (length d) h range (opened .sending) (opened .place) (spent w (blockCount (length d))) own-four (opened .lowest .within)
+        ∙ ap (λ (v : Bool). own.Place h (cond v Open (Given Sent)) noReply) (opened .as-asked .w)
+
+    awaited : q .w ≡ true → Awaited (again .here) p h × (again .here .own p .since ≡ 0)
+    awaited wants =
+        let within = opened .lowest .within in
+        let seen =
+        seen-waits (again .here) (again .linked .one) p within (headerBytes h) 0
+        (ap (λ (u : Link). ownPlace (u .exchange) p) (again .one)
+        ∙ awaits-reply (s .terms) y p (length d) h range (opened .sending) (opened .place) (spent w (blockCount (length d))) own-four within (opened .as-asked .w ∙ wants)) in (
+          record {
+            shown = ap (λ (u : Link). ownOf u p) (again .one) ∙ standing ∙ ap (λ (v : Bool). own.Place h (cond v Open (Given Sent)) noReply) wants;
+            acknowledged = seen .asked .acked;
+            none = seen .kept;
+            ranged = range;
+          },
+          seen .since,
+        )
+
+    delivered : Delivered o q d h p (a .link .exchange .saved) (laterBy o (b .link) far (ticksInAll d w)) (outward o w (endOf (a .link) room) (endOf (b .link) far) q d)
+    unfolding wanted came
+    delivered =
+        let n : ℕ = blockCount (length d) in
+        let r : Receiver = came n in
+        let z = assembled in
+        let later : Link = laterBy o (b .link) far (ticksInAll d w) in
+        let alone : later .exchange ≡ passes (t .terms) (b .link .exchange) (ticksInAll d w) = later-is b (l .other) (l .far-line) far o (m .there) (m .out) (ticksInAll d w) in
+        subst (Delivered o q d h p (a .link .exchange .saved) later) (sym (arrives .so))
+        (record {
+          quiet = record {
+            none = refl;
+            line = refl;
+            far-line = refl;
+            sending = ap sendingBy (sending-ends (s .terms) (passes (s .terms) y (spent w n)) .acknowledged);
+            far-sending = ap sendingBy (z .sending) ∙ not-sending b (l .other) (l .far-line);
+          };
+          again = again;
+          standing = standing;
+          awaited = awaited;
+          place = z .place;
+          message = z .primary;
+          complete = z .complete ∙ ap (λ (v : Bool). incoming.Place (z .primary) (length d) true (cond v reply.Owed reply.NotOwed)) (opened .as-asked .w);
+          same = z .same;
+          bytes = message-read (r .exchange) (r .room) (z .place) (z .primary) d (wanted h) (z .within) (came-whole n) (fits .short) (z .complete) (z .bytes);
+          notes = z .notes;
+          others = λ k ne. incoming-read (r .exchange) (later .exchange) k (z .others k ne ∙ ap (λ (v : Exchange). incomingPlace v k) (sym alone));
+          owns = λ k. own-read (r .exchange) (later .exchange) k (z .owns k ∙ ap (λ (v : Exchange). ownPlace v k) (sym alone));
+          saved = z .saved;
+          far-saved = sent-saves (passes (s .terms) y (spent w n) .sending) (passes (s .terms) y (spent w n)) ∙ saved-stays (s .terms) y (spent w n) ∙ opened .saved;
+        })
+
+  goes-on-its-way : GoesOut a b room far o q d p
+  goes-on-its-way = record {
+    header = h;
+    as-asked = as-asked;
+    shown =
+        ap (λ (z : Said). ownReading (z .end .link .exchange) p) asks
+        ∙ shown-open (s .terms) y p (length d) h range (opened .sending) (opened .place);
+    delivered = delivered;
+  }
 
 pub same-message : SameMessage
-same-message a b l room far o m q w d e = record { accepted = accepted a b l room far o m q w d e; delivered = delivered a b l room far o m q w d e }
+same-message a b l room far o m q d typed p accepted = goes-on-its-way a b l room far o m q d typed p accepted

@@ -1,40 +1,44 @@
--- A reply that is asked for, at the end that owes it. Assumes nothing.
+-- A reply that is accepted, at the end that owes it. Assumes nothing.
 use Prim.Native.Nat.{ℕ, _+_, _%_, _≤_, _<_}
-use mathlib.Core.Path.{_≡_, refl, ap, subst, _∙_}
-use mathlib.Core.Bool.{true, false, cond, not, and-false, false≢true}
+use mathlib.Core.Path.{_≡_, refl, sym, ap, subst, _∙_}
+use mathlib.Core.Bool.{true}
 use mathlib.Core.List.{List}
 use native.Mathlib.Omega.{arith}
-use lib.Dec.{eqb}
+use lib.Dec.{ltb, eqb}
 use lib.ListN.{length}
 use lib.Seq.{getD-set-same}
-use borrow.Author.Tests.{le-ltb, eq-eqb}
+use borrow.Author.Tests.{ltb-true, ltb-false, eqb-true, eqb-false}
 use Rattle.wire.specs.Message.{messageLimit}
+use Rattle.wire.proofs.Choice.{either}
 use Rattle.header.specs.declared.header.Header.{Header}
-use Rattle.room.specs.Room.{keptIn}
-use Rattle.room.specs.declared.Message.the-variants.{Send}
 use Rattle.settings.specs.declared.terms.Terms.{Terms}
-use Rattle.place.specs.Incoming.{freshIncoming, primaryOf, incomingIsFree, incomingIsOpen, incomingLength, incomingSent}
-use Rattle.place.specs.declared.End.the-variants as end
+use Rattle.place.specs.Incoming.{freshIncoming, primaryOf, incomingTick, incomingSent}
 use Rattle.place.specs.declared.IncomingStage.{IncomingStage}
 use Rattle.place.specs.declared.IncomingStage.the-variants as stage
 use Rattle.place.specs.declared.Incoming.{Incoming}
 use Rattle.place.specs.declared.Verdict.{Verdict}
+use Rattle.place.specs.declared.Verdict.the-variants.{Answered, Declined}
 use Rattle.exchange.specs.Exchange.{incomingPlace, putIncoming, withSending}
-use Rattle.exchange.specs.Send.{outgoingOf, endedReply, sentBy, sentOf}
-use Rattle.exchange.specs.Request.{requesting, badFunction, dataLong, notReady, replyAccepted, replyReady, replyOf}
-use Rattle.exchange.specs.Reading.{wanted, replyStage, incomingReading}
+use Rattle.exchange.specs.Send.{replyTo, outgoingAt, outgoingOf, endedReply, sentBy, sentOf}
+use Rattle.exchange.specs.Request.{askedNumber, reply, answerOf}
+use Rattle.exchange.specs.Reading.{replyStage, incomingReading}
+use Rattle.exchange.specs.Rules.{Fours}
+use Rattle.exchange.specs.Releases as side
 use Rattle.exchange.specs.Assembly as assembly
-use Rattle.exchange.specs.Refusals.{RepliesTo, Replied}
+use Rattle.exchange.specs.Assembly.{passes}
+use Rattle.exchange.specs.Refusals.{BadReply, ReplyRuled, reply-0, reply-5, reply-6, reply-7, reply-9, reply-10, reply-11, Replied}
+use Rattle.exchange.proofs.Refusing.{request-exactly}
 use Rattle.exchange.proofs.Accepting.{accepted-replies}
+use Rattle.exchange.proofs.Passing.{sending-stays, kept-on}
 use Rattle.exchange.specs.declared.Sending.{Sending}
-use Rattle.exchange.specs.declared.Sending.the-variants as sending
 use Rattle.exchange.specs.declared.Exchange.{Exchange}
-use Rattle.exchange.specs.declared.IncomingReading.{IncomingReading}
 use Rattle.exchange.specs.declared.IncomingReading.the-variants as incoming
-use Rattle.exchange.specs.declared.ReplyStage.the-variants.{Owed, Sent}
+use Rattle.exchange.specs.declared.ReplyStage.{ReplyStage}
+use Rattle.exchange.specs.declared.ReplyStage.the-variants.{Sent}
 use Rattle.exchange.specs.declared.Asked.the-variants.{Taken}
 use Rattle.exchange.specs.declared.Outgoing.the-variants.{Message}
 use Rattle.link.specs.SameMessage.{Earns, one-higher, function-0}
+use Rattle.link.proofs.same_message.Delivers.{incomingRead}
 
 -- ---- the function of a reply
 
@@ -42,88 +46,86 @@ pub even : (n f : ℕ) (v : Verdict) → n % 2 ≡ 1 → Earns n f v → f % 2 �
 even n f v odd (one-higher less) = omega arith
 even n f v odd function-0 = refl
 
-pub fits : (n f : ℕ) (v : Verdict) → Earns n f v → f < 256
-fits n f v (one-higher less) = omega arith
-fits n f v function-0 = omega arith
-
-allowed : (h : Header) (f : ℕ) (v : Verdict) → Earns (h .function) f v → badFunction h f ≡ false
-unfolding badFunction
-allowed h f v (one-higher less) = rw (eq-eqb (h .function + 1) (h .function + 1) refl) (and-false (not (eqb (h .function + 1) 0)))
-allowed h f v function-0 = refl
-
 pub earned : (g h : Header) (f : ℕ) (v : Verdict) → h .stream ≡ g .stream → h .function ≡ f → Earns (g .function) f v → assembly.Earns g h v
 earned g h f v same is (one-higher less) = record { stream = same; function = is }
 earned g h f v same is function-0 = record { stream = same; function = is }
 
--- ---- a message to which a reply is owed
+-- one that is not refused by 5 earns one of two verdicts
+pub earns : (h : Header) (f : ℕ) → f < 256 → (BadReply h f → ⊥) → (v : Verdict) × Earns (h .function) f v
+earns h f fits good =
+    either (eqb f (h .function + 1)) (λ t. (v : Verdict) × Earns (h .function) f v)
+    (λ t.
+    let e : f ≡ h .function + 1 = eqb-true f (h .function + 1) t in
+    (Answered, subst (λ (k : ℕ). Earns (h .function) k Answered) (sym e) (one-higher (omega arith))))
+    (λ t.
+    either (eqb f 0) (λ u. (v : Verdict) × Earns (h .function) f v)
+    (λ u. (Declined, subst (λ (k : ℕ). Earns (h .function) k Declined) (sym (eqb-true f 0 u)) function-0))
+    (λ u. absurd (good (record { not-next = eqb-false f (h .function + 1) t; not-zero = eqb-false f 0 u }))))
 
--- what is read of a place
-abbrev reading : Incoming → IncomingReading
-reading i = cond (incomingIsFree i) incoming.NoPlace (incoming.Place (primaryOf i) (incomingLength i) (not (incomingIsOpen i)) (replyStage i))
+-- ---- a reply that is accepted
 
-record Owing (h : Header) (n : ℕ) (i : Incoming) : Type 0 where
-  pub was : i .stage ≡ stage.Complete n
-  pub header : primaryOf i ≡ h
+-- it is refused neither by 5, "in a reply, neither primary + 1 nor 0", nor by 6, "data above 4,096 bytes"
+pub record Replyable (h : Header) (f : ℕ) (r : List ℕ) : Type 0 where
+  pub good : BadReply h f → ⊥
+  pub short : length r ≤ messageLimit
 
-owing : (h : Header) (n : ℕ) (g : Header) (s : IncomingStage) → reading (record { header = g; stage = s }) ≡ incoming.Place h n true Owed
-    → Owing h n (record { header = g; stage = s })
-unfolding wanted
-owing h n g stage.Free r = absurd (false≢true (cc r))
-owing h n g (stage.Open a) r = absurd (false≢true (cc r))
-owing h n g (stage.Complete k) r = record { was = cc r; header = cc r }
-owing h n g (stage.Replying k) r = absurd (false≢true (cc r))
-owing h n g (stage.Replied k end.Sent) r = absurd (false≢true (cc r))
-owing h n g (stage.Replied k end.Failed) r = absurd (false≢true (cc r))
+pub replyable : (c : Terms) (x : Exchange) (p f : ℕ) (r room : List ℕ) (k : ℕ) → Fours x → answerOf c x (reply p f r) room .answer .asked ≡ Taken k
+    → Replyable (primaryOf (incomingPlace x p)) f r
+replyable c x p f r room k four e = by refl (request-exactly c x (reply p f r) room four 0 .0 (ap askedNumber e))
+  where
+    by : {n : ℕ} → n ≡ 0 → ReplyRuled x p f r n → Replyable (primaryOf (incomingPlace x p)) f r
+    by z (reply-9 a) = absurd (omega (arith, z))
+    by z (reply-10 a b) = absurd (omega (arith, z))
+    by z (reply-11 a b d) = absurd (omega (arith, z))
+    by z (reply-5 a b) = absurd (omega (arith, z))
+    by z (reply-6 a b d) = absurd (omega (arith, z))
+    by z (reply-7 a b d s) = absurd (omega (arith, z))
+    by z (reply-0 a good long s) = record {
+      good = good;
+      short = either (ltb messageLimit (length r)) (λ t. length r ≤ messageLimit) (λ t. absurd (long (ltb-true messageLimit (length r) t))) (λ t. ltb-false messageLimit (length r) t);
+    }
 
--- ---- a reply at its sender
+-- Transactions x took reply r with function f to the message in incoming place p; y are those that send it.
+module _ (c : Terms) (x : Exchange) (p f : ℕ) (r room : List ℕ) (k : ℕ) (taken : answerOf c x (reply p f r) room .answer .asked ≡ Taken k) where
+  abbrev y : Exchange
+  y = answerOf c x (reply p f r) room .answer .exchange
 
--- Transactions y took reply r with function f to a message with header h of n bytes in incoming place 0. What goes out, and what is
--- there once it is sent.
-pub record Replies (y : Exchange) (room : List ℕ) (h : Header) (n f : ℕ) (r : List ℕ) : Type 0 where
-  pub sends : Exchange
-  pub asked : replyOf y 0 f r room ≡ requesting (record { exchange = sends; asked = Taken 0 }) (keptIn room Send 0 r)
-  pub header : Header
-  pub replies-to : RepliesTo h f header
-  pub goes-out : outgoingOf sends ≡ Message header (length r)
-  pub read : length (sends .incoming) ≡ 4 → incomingReading (sentOf sends .exchange) 0 ≡ incoming.Place h n true Sent
+  pub replied : Replied x p f r room k y (answerOf c x (reply p f r) room .room)
+  replied = accepted-replies c x p f r room k taken
 
-module _ (c : Terms) (y : Exchange) (room : List ℕ) (h : Header) (n : ℕ) (owed : incomingReading y 0 ≡ incoming.Place h n true Owed) (w : h .w ≡ true)
-    (idle : y .sending ≡ sending.Nothing) (f : ℕ) (v : Verdict) (good : Earns (h .function) f v) (r : List ℕ) (short : length r ≤ messageLimit) where
-  place : Owing h n (incomingPlace y 0)
-  unfolding incomingReading
-  place = owing h n (incomingPlace y 0 .header) (incomingPlace y 0 .stage) owed
+  -- the message, with this of its reply
+  abbrev at : IncomingStage → Incoming
+  at s = record { header = incomingPlace x p .header; stage = s }
 
-  taken : replyOf y 0 f r room .answer .asked ≡ Taken 0
-  unfolding replyOf replyReady notReady dataLong replyAccepted
-  taken = rw (place .was, place .header, allowed h f v good, w, le-ltb messageLimit (length r) short, idle)
+  -- no tick changes it
+  stays : (m : ℕ) → incomingPlace (passes c y m) p ≡ at (stage.Replying (replied .size))
+  stays = kept-on side.incoming c y p (λ (i : Incoming). i ≡ at (stage.Replying (replied .size))) (λ o e. ap (incomingTick c) e) (replied .place)
 
-  accepted : Replied y 0 f r room 0 (replyOf y 0 f r room .answer .exchange) (replyOf y 0 f r room .room)
-  accepted = accepted-replies c y 0 f r room 0 taken
+  -- it is what goes out
+  pub goes-out : (m : ℕ) → outgoingOf (passes c y m) ≡ Message (replied .header) (length r)
+  goes-out m =
+      ap (λ (z : Sending). outgoingAt z (passes c y m)) (sending-stays c y m ∙ replied .sending)
+      ∙ ap (λ (i : Incoming). Message (replyTo (primaryOf i) f) (length r)) (stays m ∙ sym (replied .place))
+      ∙ sym (ap (λ (z : Sending). outgoingAt z y) (replied .sending)) ∙ replied .outgoing
 
-  -- the message, once the reply is sent
-  answered : Incoming
-  answered = record { header = incomingPlace y 0 .header; stage = stage.Replied n end.Sent }
+  -- what is read of the message before it
+  module _ (g : Header) (n : ℕ) (s : ReplyStage) (shown : incomingReading x p ≡ incoming.Place g n true s) where
+    before : incoming.Place (incomingPlace x p .header) (replied .size) true (replyStage (at (stage.Complete (replied .size)))) ≡ incoming.Place g n true s
+    unfolding incomingReading
+    before = sym (ap (λ (z : IncomingStage). incomingRead (at z)) (replied .was)) ∙ shown
 
-  sent-as : sentOf (replyOf y 0 f r room .answer .exchange) .exchange ≡ withSending (putIncoming (replyOf y 0 f r room .answer .exchange) 0 answered) sending.Nothing
-  unfolding endedReply answered
-  sent-as =
-      let x : Exchange = replyOf y 0 f r room .answer .exchange in
-      let k : accepted .size ≡ n = cc (accepted .was, place .was) in
-      ap (λ (s : Sending). sentBy s x .exchange) (accepted .sending)
-      ∙ ap (λ (i : Incoming). withSending (putIncoming x 0 (incomingSent i)) sending.Nothing) (accepted .place)
-      ∙ ap (λ (m : ℕ). withSending (putIncoming x 0 (record { header = incomingPlace y 0 .header; stage = stage.Replied m end.Sent })) sending.Nothing) k
+    pub header-is : incomingPlace x p .header ≡ g
+    header-is = let e = before in cc
 
-  pub replies : Replies y room h n f r
-  unfolding incomingReading withSending putIncoming answered
-  replies =
-      let x : Exchange = replyOf y 0 f r room .answer .exchange in
-      record {
-        sends = x;
-        asked = λ i. requesting (record { exchange = x; asked = taken i }) (accepted .kept i);
-        header = accepted .header;
-        replies-to = subst (λ (g : Header). RepliesTo g f (accepted .header)) (place .header) (accepted .replies-to);
-        goes-out = accepted .outgoing;
-        read = λ four.
-            ap (λ (z : Exchange). incomingReading z 0) sent-as ∙ ap reading (getD-set-same (x .incoming) 0 answered freshIncoming (omega arith))
-            ∙ ap (λ (g : Header). incoming.Place g n true Sent) (place .header);
-      }
+    pub size-is : replied .size ≡ n
+    size-is = let e = before in cc
+
+    -- and once the reply is sent
+    pub sent-read : (m : ℕ) → length (passes c y m .incoming) ≡ 4 → p < 4 → incomingReading (sentOf (passes c y m) .exchange) p ≡ incoming.Place g n true Sent
+    unfolding incomingReading endedReply withSending putIncoming
+    sent-read m four within =
+        let z : Exchange = passes c y m in
+        ap (λ (v : Sending). incomingRead (incomingPlace (sentBy v z .exchange) p)) (sending-stays c y m ∙ replied .sending)
+        ∙ ap incomingRead (getD-set-same (z .incoming) p (incomingSent (incomingPlace z p)) freshIncoming (omega arith))
+        ∙ ap (λ (i : Incoming). incomingRead (incomingSent i)) (stays m)
+        ∙ (λ i. incoming.Place (header-is i) (size-is i) true Sent)

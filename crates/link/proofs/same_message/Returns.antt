@@ -1,231 +1,347 @@
--- A reply that is asked for where a primary came is the same message where the primary was sent (`specs/SameMessage.antt`). Assumes
+-- A reply that is accepted where a primary came is the same message where the primary was sent (`specs/SameMessage.antt`). Assumes
 -- nothing.
-use Prim.Native.Nat.{ℕ, _%_}
+use Prim.Native.Nat.{ℕ, _+_, _%_, _≤_, _<_}
 use mathlib.Core.Path.{_≡_, refl, sym, ap, subst, _∙_}
-use mathlib.Core.Bool.{Bool, true, false, cond, not, Bool·not-not, false≢true}
-use mathlib.Core.List.{List, []}
+use mathlib.Core.Bool.{Bool, true, false, not, Bool·not-not, false≢true}
+use mathlib.Core.List.{List, [], _∷_}
+use mathlib.Core.Logic.{_≢_}
 use native.Mathlib.Omega.{arith}
-use lib.ListN.{length, replicate}
+use lib.Dec.{ltb}
+use lib.ListN.{length}
+use borrow.Author.Tests.{ltb-true, ltb-false}
+use Rattle.wire.specs.Message.{messageLimit}
+use Rattle.wire.proofs.Choice.{either}
 use Rattle.header.specs.Header.{InRange}
+use Rattle.header.specs.Theorems.{SameElse}
+use Rattle.header.specs.declared.header.Header.{Header}
 use Rattle.cut.specs.Blocks.{blockCount}
+use Rattle.room.specs.Room.{bytesIn, front}
+use Rattle.room.specs.Theorems.{Lies}
 use Rattle.room.specs.declared.Message.the-variants as message
-use Rattle.room.proofs.Keeping.{keep-elsewhere}
+use Rattle.room.proofs.Keeping.{keeps-only, keep-elsewhere}
 use Rattle.room.proofs.Reading.{front-read}
+use Rattle.line.specs.Codes.{ENQ}
+use Rattle.line.specs.declared.phase.Phase.the-variants.{WaitEot}
+use Rattle.settings.specs.declared.terms.Terms.{Terms}
 use Rattle.place.specs.Message.{Routed}
+use Rattle.place.specs.Own.{noReply, freeBy, standingAt, ownStanding}
+use Rattle.place.specs.Range.{IncomingStageFits}
+use Rattle.place.specs.Incoming.{primaryOf as incomingPrimary}
+use Rattle.place.specs.OwnHistory as own
+use Rattle.place.specs.declared.OwnStage.{OwnStage}
+use Rattle.place.specs.declared.OwnStage.the-variants as stage
+use Rattle.place.specs.declared.IncomingStage.{IncomingStage}
+use Rattle.place.specs.declared.Reply.{Reply}
 use Rattle.place.specs.declared.Verdict.{Verdict}
-use Rattle.place.specs.declared.Standing.the-variants.{Given}
-use Rattle.exchange.specs.Exchange.{putOwn, withSending}
-use Rattle.exchange.specs.Send.{endedOwn, sentOf}
-use Rattle.exchange.specs.Judge.{isSaved, isDuplicate}
-use Rattle.exchange.specs.Request.{Requesting, sendingBy, claimedAt, reply}
-use Rattle.exchange.specs.Reading.{wanted, ownReading, incomingReading}
-use Rattle.exchange.specs.History.{acknowledged, request}
-use Rattle.exchange.specs.Assembly.{headerIn, Receiver, freshReceiver, received, awaitingReceiver, Assembled, ReplyAssembled}
-use Rattle.exchange.proofs.Outcomes.{not-saved}
-use Rattle.exchange.proofs.Answering.{assembly-of-reply}
+use Rattle.place.specs.declared.Standing.{Standing}
+use Rattle.place.specs.declared.Standing.the-variants.{Free, Open, Given}
+use Rattle.place.proofs.OwnInvariant.{At, is-acked, HasVerdict, no-block}
+use Rattle.place.proofs.OwnAlways.{always}
+use Rattle.place.proofs.Verdicts.{request-shown}
+use Rattle.exchange.specs.Exchange.{ownPlace, incomingPlace}
+use Rattle.exchange.specs.Request.{sendingBy, reply, answerOf}
+use Rattle.exchange.specs.Reading.{ownReading, incomingReading}
+use Rattle.exchange.specs.Rules.{Fours, Duplicate}
+use Rattle.exchange.specs.History.{request}
+use Rattle.exchange.specs.Refusals.{RepliesTo, Replied}
+use Rattle.exchange.specs.Numbers.{inUse}
+use Rattle.exchange.specs.Assembly.{headerIn, Receiver, receiverOf, passes, received, Awaits, ReplyAssembled}
 use Rattle.exchange.proofs.BeingSent.{sending-ends}
+use Rattle.exchange.proofs.Ranges.{exchange-fits-exactly}
+use Rattle.exchange.proofs.Odds.{Came, CameAt, came}
+use Rattle.exchange.proofs.Passing.{saved-stays}
+use Rattle.exchange.proofs.SavedHeader.{sent-saves}
+use Rattle.exchange.proofs.Answering.{assembly-of-reply}
 use Rattle.exchange.specs.declared.Exchange.{Exchange}
 use Rattle.exchange.specs.declared.OwnReading.{OwnReading}
-use Rattle.exchange.specs.declared.OwnReading.the-variants as own
+use Rattle.exchange.specs.declared.OwnReading.the-variants as reading
+use Rattle.exchange.specs.declared.IncomingReading.{IncomingReading}
 use Rattle.exchange.specs.declared.IncomingReading.the-variants as incoming
-use Rattle.exchange.specs.declared.ReplyStage.the-variants.{NotOwed, Owed, Sent}
-use Rattle.exchange.specs.declared.Primary.{Primary}
-use Rattle.link.specs.Refusals.{inTicks}
-use Rattle.link.specs.Reading.{replyBy}
-use Rattle.link.specs.SameMessage.{End, Pair, pair, carries, puts, outward, homeward, fresh, Linked, Lent, Sendable, Carriable, Earns, Returned, ComesBack, SameReply}
-use Rattle.link.specs.declared.Setup.{Setup}
-use Rattle.link.proofs.same_message.Calls.{Sound}
-use Rattle.link.proofs.same_message.Carries.{idle-end, Arrived, all-carried}
-use Rattle.link.proofs.same_message.Stands.{started, Stands, stands-next, stands-received, stands-whole, stands-fours, stands-sound}
-use Rattle.link.proofs.same_message.Asks.{asked-taken, asked-said, send-starts}
-use Rattle.link.proofs.same_message.Delivers.{header, sends, lying, as-asked, own-after, came, still-sending, message-read, range, sender-stands, receiver-stands, receiver-sound, arrives, assembled}
-use Rattle.link.proofs.same_message.Replies.{even, fits, earned, Replies, replies}
+use Rattle.exchange.specs.declared.ReplyStage.{ReplyStage}
+use Rattle.exchange.specs.declared.Asked.the-variants as asked
+use Rattle.link.specs.Call.{replyCall}
+use Rattle.link.specs.Reading.{ownOf, replyBy, incomingOf, messageBy}
+use Rattle.link.specs.History.{Track, exchangeTrack}
+use Rattle.link.specs.Inside.{Reached}
+use Rattle.link.specs.Verdicts.{standingBy, requestIn}
+use Rattle.link.specs.SameMessage.{endOf, Said, saidBy, Pair, Pauses, carries, puts, homeward, ticksIn, ticksInAll, InTime, Linked, Lent, Earns, Awaited, Shown, TypedReply, laterBy, Returned, ComesBack, SameReply}
+use Rattle.link.specs.declared.Settings.{Settings}
+use Rattle.link.specs.declared.Outcome.the-variants.{Taken}
+use Rattle.link.specs.declared.Link.{Link}
+use Rattle.link.proofs.inside.Places.{exchange-inside, places-inside}
+use Rattle.link.proofs.verdicts.Own.{standing-read, request-read, none-above}
+use Rattle.link.proofs.same_message.Calls.{said, unit, Sound}
+use Rattle.link.proofs.same_message.Reaches.{Reaches, reaches-itself, reaches-asked, meet-again}
+use Rattle.link.proofs.same_message.Carries.{spent, Arrived, all-carried}
+use Rattle.link.proofs.same_message.Stands.{Stands, stands-next, stands-later, stands-fours, stands-received, received-size, stands, array-fits, sound, not-sending, idles}
+use Rattle.link.proofs.same_message.Asks.{taken-inside, asked-said, send-starts}
+use Rattle.link.proofs.same_message.Delivers.{own-read, incoming-read, later-is}
+use Rattle.link.proofs.numbers.Distinct.{alone}
+use Rattle.link.proofs.same_message.Replies.{even, earned, earns, Replyable, replyable, replied, goes-out, header-is, size-is, sent-read}
 
-apart : message.Send ≡ message.Incoming 0 → ⊥
-apart e = false≢true (cc e)
+-- ---- a place whose reply is awaited
 
--- what the far end has of the primary
-abbrev whole-of : Setup → Setup → List ℕ → Primary → List ℕ → Receiver
-whole-of a b far q d = came a b far q d (blockCount (length d))
+-- T3 stands there at the ticks since the ACK
+awaited-at : (c : Terms) (h : List ℕ) (z : OwnStage) (s : own.Seen) → At c z h s → standingAt z ≡ Open → s .request ≡ own.acknowledged → s .kept ≡ []
+    → z ≡ stage.Awaiting (s .since)
+awaited-at c h stage.Free s w open' ack none = absurd (is-acked _ _ w ack)
+awaited-at c h stage.Sending s w open' ack none = absurd (is-acked _ _ (w .request) ack)
+awaited-at c h (stage.Awaiting timer) s w open' ack none = ap stage.Awaiting (sym (w .since))
+awaited-at c h (stage.Replying a) s w open' ack none = absurd (no-block (s .kept) none (w .arrives .begun .some))
+awaited-at c h (stage.Done v r) s w open' ack none = absurd (subst HasVerdict open' tt)
 
--- the end that awaits the reply to it
-abbrev awaits : Setup → List ℕ → Primary → List ℕ → Receiver
-awaits a room q d = awaitingReceiver (sentOf (sends a q d) .exchange) (lying room d) 0 (header a q) 0
+-- ---- places that are read
 
-module _ (a b : Setup) (l : Linked a b) (room far o : List ℕ) (m : Lent room far o) (q : Primary) (w : Sendable q) (d : List ℕ) (e : Carriable d)
-    (wants : q .w ≡ true) (f : ℕ) (v : Verdict) (good : Earns (q .function) f v) (r : List ℕ) (c : Carriable r) where
-  -- ---- the far end, which replies
+-- there are four of either kind
+own-within : (t : Track) → Reached t → (p : ℕ) (h : Header) (z : Standing) (r : Reply) → ownOf (t .link) p ≡ reading.Place h z r → p < 4
+own-within t w p h z r e =
+    either (ltb 3 p) (λ b. p < 4) (λ b. absurd (not-place (sym e ∙ none-above t w p (ltb-true 3 p b) .0))) (λ b. omega (arith, ltb-false 3 p b))
+  where
+    not-place : reading.Place h z r ≡ reading.NoPlace → ⊥
+    not-place f = false≢true (sym (ap inUse f))
 
-  got : Assembled (header a q) d (whole-of a b far q d)
-  got = assembled a b l room far o m q w d e
+incoming-within : (t : Track) → Reached t → (p : ℕ) (h : Header) (n : ℕ) (z : Bool) (s : ReplyStage) → incomingOf (t .link) p ≡ incoming.Place h n z s → p < 4
+incoming-within t w p h n z s e =
+    either (ltb 3 p) (λ b. p < 4) (λ b. absurd (not-place (sym e ∙ none-above t w p (ltb-true 3 p b) .1))) (λ b. omega (arith, ltb-false 3 p b))
+  where
+    isPlace : IncomingReading → Bool
+    isPlace incoming.NoPlace = false
+    isPlace (incoming.Place g k c r) = true
 
-  answer : Replies (whole-of a b far q d .exchange) (whole-of a b far q d .room) (got .primary) (length d) f r
-  unfolding wanted
-  answer =
-      replies (inTicks b .terms) (whole-of a b far q d .exchange) (whole-of a b far q d .room) (got .primary) (length d)
-      (got .complete ∙ ap (λ (t : Bool). incoming.Place (got .primary) (length d) true (cond t Owed NotOwed)) wants) (got .same .w ∙ wants)
-      (still-sending (inTicks b .terms) (freshReceiver (b .last) far) (header a q) d (blockCount (length d)))
-      f v (subst (λ (k : ℕ). Earns k f v) (sym (got .same .function)) good) r (c .short)
+    not-place : incoming.Place h n z s ≡ incoming.NoPlace → ⊥
+    not-place f = false≢true (sym (ap isPlace f))
 
-  replier-stands : Stands (inTicks b .terms) (answer .sends) (lying (whole-of a b far q d .room) r)
-  replier-stands =
-      subst (λ (z : Requesting). Stands (inTicks b .terms) (z .answer .exchange) (z .room)) (answer .asked)
-      (stands-next (inTicks b .terms) (whole-of a b far q d .exchange) (whole-of a b far q d .room) (request (reply 0 f r))
-      (receiver-stands a b l room far o m q w d e (blockCount (length d))))
+apart : (p : ℕ) → message.Send ≡ message.Incoming p → ⊥
+apart p e = false≢true (cc e)
 
-  -- ---- the end that awaits the reply
+-- ---- both
 
-  awaited : sentOf (sends a q d) .exchange ≡ awaits a room q d .exchange
-  awaited =
-      let x : Exchange = sentOf (sends a q d) .exchange in
-      λ i. record {
-        own = own-after a q d (range a b l room far o m q w d e) true wants i;
-        incoming = x .incoming;
-        saved = x .saved;
-        numbers = x .numbers;
-        sending = x .sending;
+module _ (a b : Track) (l : Linked a b) (room far o : List ℕ) (m : Lent room far o) (q : ℕ) (h : Header) (awaited : Awaited a q h)
+    (p : ℕ) (g : Header) (n : ℕ) (shown : Shown b p g n) (same : SameElse g h) (f : ℕ) (r : List ℕ) (typed : TypedReply f r)
+    (k : ℕ) (accepted : replyCall (b .link) p f r far o .answer .outcome ≡ Taken k) where
+  abbrev s : Settings
+  s = b .link .settings
+
+  abbrev t : Settings
+  t = a .link .settings
+
+  abbrev x : Exchange
+  x = b .link .exchange
+
+  -- ---- the end that replies
+
+  four : Fours x
+  four = stands-fours (s .terms) x (stands b (l .other))
+
+  p-within : p < 4
+  p-within = incoming-within b (l .other) p g n true (shown .stage) (shown .so)
+
+  taken : answerOf (s .terms) x (reply p f r) far .answer .asked ≡ asked.Taken k
+  taken = taken-inside (b .link) (reply p f r) far o k accepted
+
+  fits : Replyable (incomingPrimary (incomingPlace x p)) f r
+  fits = replyable (s .terms) x p f r far k four taken
+
+  -- the transactions that send it, and the room with its data in the send area
+  abbrev y : Exchange
+  y = answerOf (s .terms) x (reply p f r) far .answer .exchange
+
+  abbrev sent : List ℕ
+  sent = answerOf (s .terms) x (reply p f r) far .room
+
+  abbrev answer : Replied x p f r far k y sent
+  answer = replied (s .terms) x p f r far k taken
+
+  there : incomingPlace x p .header ≡ g
+  there = header-is (s .terms) x p f r far k taken g n (shown .stage) (shown .so)
+
+  abbrev e : Header
+  e = answer .header
+
+  replies-to : RepliesTo g f e
+  replies-to = subst (λ (z : Header). RepliesTo z f e) there (answer .replies-to)
+
+  -- the message came to this end, as a primary
+  message-came : Came (s .terms) g
+  message-came =
+      let i = exchange-inside b (l .other) in
+      subst (Came (s .terms)) there
+      (subst (λ (z : IncomingStage). CameAt (s .terms) z (incomingPlace x p .header)) (answer .was) (came (s .terms) (exchangeTrack b (i .room)) (i .reached) p p-within))
+
+  won : (v : Verdict) × Earns (h .function) f v
+  won =
+      subst (λ (z : ℕ). (v : Verdict) × Earns z f v) (ap (λ (z : Header). z .function) there ∙ same .function)
+      (earns (incomingPlace x p .header) f (typed .function) (fits .good))
+
+  sender-stands : Stands (s .terms) y
+  sender-stands = stands-next (s .terms) x far (request (reply p f r)) (stands b (l .other))
+
+  sent-whole : length sent ≡ 36864
+  sent-whole = ap length (answer .kept) ∙ keeps-only far message.Send 0 r .size ∙ m .there
+
+  there-sound : (i : ℕ) → Sound s (passes (s .terms) x i) 1 far
+  there-sound = sound b (l .other) x (stands b (l .other)) far (m .there) 1 (omega arith) (omega arith)
+
+  -- the message, which the send area is apart from, is still there
+  message-stays : bytesIn sent (message.Incoming p) 0 n ≡ bytesIn far (message.Incoming p) 0 n
+  unfolding passes
+  message-stays =
+      let few : answer .size ≤ messageLimit =
+      subst IncomingStageFits (answer .was) (exchange-fits-exactly x .0 (there-sound 0 .exchange) .incoming p p-within) in
+      let short : n ≤ messageLimit = omega (arith, size-is (s .terms) x p f r far k taken g n (shown .stage) (shown .so)) in
+      let lies : (i : List ℕ) → length i ≡ 36864 → Lies i (message.Incoming p) 0 n = λ i whole. record { whole = whole; place = p-within; within = omega arith } in
+      front-read sent (message.Incoming p) n (lies sent sent-whole)
+      ∙ ap (λ (i : List ℕ). front i (message.Incoming p) n) (answer .kept)
+      ∙ keep-elsewhere far message.Send (message.Incoming p) 0 n r (apart p) p-within short
+      ∙ sym (front-read far (message.Incoming p) n (lies far (m .there)))
+
+  answers-so : saidBy (replyCall (b .link) p f r far o) ≡ said (endOf (unit s (WaitEot 0 0) (b .link .received) y 1) sent) (ENQ ∷ [])
+  unfolding passes
+  answers-so =
+      ap (λ (u : Link). saidBy (replyCall u p f r far o)) (idles b (l .other) (l .far-line))
+      ∙ asked-said s x 1 far (b .link .received) o (m .out) (there-sound 0) (reply p f r) refl k taken
+
+  -- ---- the end that awaits it
+
+  abbrev z : Exchange
+  z = a .link .exchange
+
+  q-within : q < 4
+  q-within = own-within a (l .one) q h Open noReply (awaited .shown)
+
+  is-open : ownStanding (ownPlace z q) ≡ Open
+  is-open = sym (standing-read a q) ∙ ap standingBy (awaited .shown)
+
+  not-free : ownStanding (ownPlace z q) ≡ Free → ⊥
+  not-free w = false≢true (ap freeBy (sym is-open ∙ w))
+
+  -- its onlooker has seen the primary that it shows
+  seen-is : a .own q .header ≡ h
+  seen-is = sym (request-read a (l .one) q q-within (λ w. not-free (sym (standing-read a q) ∙ w))) ∙ ap requestIn (awaited .shown)
+
+  awaits : (Duplicate (t .terms) z (headerIn e r 1) → ⊥) → Awaits (t .terms) z q h (a .own q .since) e r
+  awaits new =
+      let inside = places-inside a (l .one) .own q q-within in
+      record {
+        within = q-within;
+        primary = request-shown (t .terms) _ inside not-free ∙ seen-is;
+        stage =
+            awaited-at (t .terms) (ownPlace z q .header) (ownPlace z q .stage) (a .own q) (always (t .terms) _ inside) is-open (awaited .acknowledged) (awaited .none);
+        alone = λ j j-within ne runs is.
+            alone a (l .one) (l .last) q j q-within j-within ne (λ w. absurd (is-acked _ _ w (awaited .acknowledged))) runs
+            (is ∙ replies-to .system ∙ same .system ∙ ap (λ (w : Header). w .system) (sym seen-is));
+        new = new;
       }
-
-  awaiter-stands : Stands (inTicks a .terms) (awaits a room q d .exchange) (lying room d)
-  awaiter-stands =
-      subst (λ (x : Exchange). Stands (inTicks a .terms) x (lying room d)) awaited
-      (stands-next (inTicks a .terms) (sends a q d) (lying room d) acknowledged (sender-stands a b l room far o m q w d e))
-
-  -- no block came there before
-  new : (x : List ℕ) → isDuplicate (inTicks a .terms) (awaits a room q d .exchange) x ≡ false
-  unfolding claimedAt endedOwn putOwn withSending isSaved
-  new x = not-saved (inTicks a .terms) (awaits a room q d .exchange) x refl
 
   -- ---- the reply
 
-  reply-range : InRange (answer .header)
-  reply-range =
-      let i = range a b l room far o m q w d e in
-      let h = answer .replies-to in
-      let s = got .same in
+  range : InRange e
+  range =
+      let i = awaited .ranged in
+      let c = replies-to in
       record {
-        device = omega (arith, i .device, h .device, s .device);
-        stream = omega (arith, i .stream, h .stream, s .stream);
-        function = omega (arith, h .function, fits (q .function) f v good);
-        number = omega (arith, h .number);
-        system = omega (arith, i .system, h .system, s .system);
+        device = omega (arith, i .device, c .device, same .device);
+        stream = omega (arith, i .stream, c .stream, same .stream);
+        function = omega (arith, c .function, typed .function);
+        number = omega (arith, c .number);
+        system = omega (arith, i .system, c .system, same .system);
       }
 
-  routed : Routed (inTicks a .terms) (answer .header)
-  routed = record {
-    r = answer .replies-to .r ∙ ap not (got .same .r) ∙ Bool·not-not (a .host);
-    device = answer .replies-to .device ∙ got .same .device;
-  }
+  routed : Routed (t .terms) e
+  routed =
+      let w = message-came .routed in
+      record {
+        r = replies-to .r ∙ ap not (w .r ∙ l .roles) ∙ Bool·not-not (t .terms .host);
+        device = replies-to .device ∙ w .device ∙ l .device;
+      }
 
-  -- what comes of it by its blocks 1 to k
-  back : ℕ → Receiver
-  back k = received (inTicks a .terms) (awaits a room q d) (answer .header) r k
+  module _ (new : Duplicate (t .terms) z (headerIn e r 1) → ⊥) (w : ℕ → Pauses) (time : InTime s t r w)
+      (early : a .own q .since + ticksIn r w 1 ≤ t .terms .t3 .0) where
+    -- what comes of it by its blocks 1 to j
+    back : ℕ → Receiver
+    back j = received (t .terms) (ticksIn r w) (receiverOf z room) e r j
 
-  back-stands : (k : ℕ) → Stands (inTicks a .terms) (back k .exchange) (back k .room)
-  unfolding back
-  back-stands = stands-received (inTicks a .terms) (awaits a room q d) (answer .header) r awaiter-stands
+    back-whole : (j : ℕ) → length (back j .room) ≡ 36864
+    unfolding back
+    back-whole j = received-size (t .terms) (ticksIn r w) (receiverOf z room) e r j ∙ m .here
 
-  regot : ReplyAssembled v (sentOf (sends a q d) .exchange) 0 (header a q) (answer .header) r (back (blockCount (length r)))
-  unfolding back
-  regot =
-      let h = answer .replies-to in
-      let s = got .same in
-      assembly-of-reply (inTicks a .terms) (sentOf (sends a q d) .exchange) (lying room d) 0 0 (header a q) (answer .header) r v
-      (stands-whole (inTicks a .terms) (awaits a room q d .exchange) (lying room d) awaiter-stands) (omega arith)
-      (range a b l room far o m q w d e) reply-range (ap (λ (k : ℕ). k % 2) (h .function) ∙ even (q .function) f v (w .odd) good) routed
-      (record { device = h .device ∙ s .device; system = h .system ∙ s .system })
-      (earned (header a q) (answer .header) f v (h .stream ∙ s .stream) (h .function) good) (c .short) (new (headerIn (answer .header) r 1))
+    assembled : ReplyAssembled (t .terms) (ticksIn r w) (won .0) z q h e r (back (blockCount (length r)))
+    unfolding back
+    assembled =
+        let c = replies-to in
+        assembly-of-reply (t .terms) (ticksIn r w) z room q (a .own q .since) h e r (won .0)
+        (stands-fours (t .terms) z (stands a (l .one))) (m .here) range
+        (ap (λ (i : ℕ). i % 2) (c .function) ∙ even (h .function) f (won .0) (ap (λ (i : ℕ). i % 2) (sym (same .function)) ∙ message-came .odd) (won .1))
+        routed (record { device = c .device ∙ same .device; system = c .system ∙ same .system })
+        (earned h e f (won .0) (c .stream ∙ same .stream) (c .function) (won .1)) (fits .short) (awaits new) early (time .blocks)
 
-  -- ---- both
+    -- it is carried
+    arrives : Arrived b a e r w s y sent (b .link .received) t (receiverOf z room) (homeward o w (endOf (b .link) far) (endOf (a .link) room) p f r)
+    arrives =
+        let c : Receiver = receiverOf z room in
+        subst (Arrived b a e r w s y sent (b .link .received) t c)
+        (sym (λ i. carries o w (blockCount (length r)) (puts (answers-so i) (endOf (idles a (l .one) (l .line) i) room))))
+        (all-carried o (m .out) e r range (typed .bytes) (fits .short) s y sent (b .link .received)
+        (sound b (l .other) y sender-stands sent sent-whole)
+        (goes-out (s .terms) x p f r far k taken)
+        (ap (λ (i : List ℕ). front i message.Send (length r)) (answer .kept) ∙ send-starts far r (m .there) (fits .short))
+        t c (a .link .received) (array-fits a (l .one)) w
+        (λ j less.
+        sound a (l .one) (received (t .terms) (ticksIn r w) c e r j .exchange) (stands-received (t .terms) (ticksIn r w) c e r (stands a (l .one)) j)
+        (received (t .terms) (ticksIn r w) c e r j .room) (received-size (t .terms) (ticksIn r w) c e r j ∙ m .here) 1 (omega arith) (omega arith))
+        time b a
+        (subst (λ (i : Said). Reaches b (i .end)) answers-so (reaches-asked b (endOf (b .link) far) (reaches-itself b far) o (reply p f r)))
+        (subst (λ (u : Link). Reaches a (endOf u room)) (idles a (l .one) (l .line)) (reaches-itself a room)))
 
-  -- once the primary was carried
-  out : Arrived (header a q) d (inTicks a) (sends a q d) (lying room d) (replicate 256 0) (inTicks b) (freshReceiver (b .last) far)
-      (outward o (fresh a room) (fresh b far) q d)
-  out = arrives a b l room far o m q w d e
+    -- what is read of it
+    verdict-read : ownReading (back (blockCount (length r)) .exchange) q
+        ≡ reading.Place h (Given (won .0)) (record { w = false; stream = h .stream; function = f; length = length r })
+    verdict-read =
+        let c = replies-to in
+        assembled .verdict
+        ∙ (λ i. reading.Place h (Given (won .0)) (record { w = c .w i; stream = (c .stream ∙ same .stream) i; function = c .function i; length = length r }))
 
-  here-end : End
-  here-end = idle-end (inTicks a) (replicate 256 0) (sentOf (sends a q d) .exchange) (lying room d)
+    returned : Returned o (won .0) p q f r g h e n (messageBy (incomingReading x p) far p) (x .saved) (laterBy o (a .link) room (ticksInAll r w))
+        (homeward o w (endOf (b .link) far) (endOf (a .link) room) p f r)
+    unfolding back
+    returned =
+        let j : ℕ = blockCount (length r) in
+        let c : Receiver = back j in
+        let later : Link = laterBy o (a .link) room (ticksInAll r w) in
+        let ticks-alone : later .exchange ≡ passes (t .terms) z (ticksInAll r w) = later-is a (l .one) (l .line) room o (m .here) (m .out) (ticksInAll r w) in
+        let done = sent-read (s .terms) x p f r far k taken g n (shown .stage) (shown .so) (spent w j)
+        (stands-fours (s .terms) (passes (s .terms) y (spent w j)) (stands-later (s .terms) y sender-stands (spent w j)) .incoming) p-within in
+        subst (Returned o (won .0) p q f r g h e n (messageBy (incomingReading x p) far p) (x .saved) later) (sym (arrives .so))
+        (record {
+          quiet = record {
+            none = refl;
+            line = refl;
+            far-line = refl;
+            sending = ap sendingBy (sending-ends (s .terms) (passes (s .terms) y (spent w j)) .acknowledged);
+            far-sending = ap sendingBy (assembled .sending) ∙ not-sending a (l .one) (l .line);
+          };
+          again =
+              meet-again a b l o _ _ (subst (λ (i : Pair). Reaches a (i .receiver)) (arrives .so) (arrives .receiver-reaches))
+              (subst (λ (i : Pair). Reaches b (i .sender)) (arrives .so) (arrives .sender-reaches)) refl refl refl refl
+              (record { here = back-whole j; there = sent-whole; out = m .out });
+          verdict = verdict-read;
+          bytes =
+              ap (λ (i : OwnReading). replyBy i (c .room) q) verdict-read
+              ∙ front-read (c .room) (message.Reply q) (length r) (record { whole = back-whole j; place = q-within; within = omega (arith, fits .short) })
+              ∙ assembled .bytes;
+          notes = assembled .notes;
+          replied = done;
+          still =
+              ap (λ (i : IncomingReading). messageBy i sent p) done ∙ message-stays ∙ sym (ap (λ (i : IncomingReading). messageBy i far p) (shown .so));
+          others = λ i ne. own-read (c .exchange) (later .exchange) i (assembled .others i ne ∙ ap (λ (v : Exchange). ownPlace v i) (sym ticks-alone));
+          incomings = λ i. incoming-read (c .exchange) (later .exchange) i (assembled .incomings i ∙ ap (λ (v : Exchange). incomingPlace v i) (sym ticks-alone));
+          saved = assembled .saved;
+          far-saved = sent-saves (passes (s .terms) y (spent w j) .sending) (passes (s .terms) y (spent w j)) ∙ saved-stays (s .terms) y (spent w j) ∙ answer .saved;
+        })
 
-  far-end : End
-  far-end = idle-end (inTicks b) (out .array) (whole-of a b far q d .exchange) (whole-of a b far q d .room)
-
-  far-sound : Sound (inTicks b) (whole-of a b far q d .exchange) 1 (whole-of a b far q d .room)
-  far-sound = receiver-sound a b l room far o m q w d e (blockCount (length d))
-
-  -- the reply is carried
-  returns : Arrived (answer .header) r (inTicks b) (answer .sends) (lying (whole-of a b far q d .room) r) (out .array)
-      (inTicks a) (awaits a room q d)
-      (homeward o (pair here-end far-end [] (whole-of a b far q d .notes)) f r)
-  unfolding here-end far-end back
-  returns =
-      let y : Receiver = whole-of a b far q d in
-      subst (Arrived (answer .header) r (inTicks b) (answer .sends) (lying (y .room) r) (out .array) (inTicks a) (awaits a room q d))
-      (sym
-      (λ j.
-      carries o (blockCount (length r))
-      (puts
-      (asked-said (inTicks b) (y .exchange) 1 (y .room) (out .array) o (m .out) far-sound (reply 0 f r) refl (answer .sends) 0 (lying (y .room) r) (answer .asked) j)
-      (idle-end (inTicks a) (replicate 256 0) (awaited j) (lying room d)))))
-      (all-carried o (m .out) (answer .header) r reply-range (c .bytes) (c .short)
-      (inTicks b) (answer .sends) (lying (y .room) r) (out .array) (stands-sound b (started b (l .other)) (answer .sends) (lying (y .room) r) replier-stands)
-      (answer .goes-out) (send-starts (y .room) r (far-sound .whole) (c .short))
-      (inTicks a) (awaits a room q d) (replicate 256 0) refl
-      (λ k less. stands-sound a (started a (l .one)) (back k .exchange) (back k .room) (back-stands k) 1 (omega arith) (omega arith)))
-
-  -- what is read of it
-  shown : ownReading (back (blockCount (length r)) .exchange) 0
-      ≡ own.Place (header a q) (Given v) (record { w = false; stream = q .stream; function = f; length = length r })
-  shown =
-      let h = answer .replies-to in
-      regot .verdict
-      ∙ (λ i.
-      own.Place (header a q) (Given v) (record { w = h .w i; stream = (h .stream ∙ got .same .stream) i; function = h .function i; length = length r }))
-
-  replied : incomingReading (sentOf (answer .sends) .exchange) 0 ≡ incoming.Place (got .primary) (length d) true Sent
-  replied = answer .read (stands-fours (inTicks b .terms) (answer .sends) (lying (whole-of a b far q d .room) r) replier-stands .incoming)
-
-  comes-back : ComesBack q d o (outward o (fresh a room) (fresh b far) q d) f r v
-  unfolding here-end far-end back
-  comes-back =
-      let y : Receiver = whole-of a b far q d in
-      let n : ℕ = blockCount (length r) in
-      subst (λ (p : Pair). ComesBack q d o p f r v) (sym (out .so))
-      (record {
-        accepted = asked-taken (inTicks b) (y .exchange) 1 (y .room) (out .array) o (m .out) far-sound (reply 0 f r) refl (answer .sends) 0 (lying (y .room) r) (answer .asked);
-        returned =
-            subst (Returned v q d f r) (sym (returns .so))
-            (record {
-              quiet = record {
-                none = refl;
-                line = refl;
-                far-line = refl;
-                sending = ap sendingBy (sending-ends (inTicks b .terms) (answer .sends) .acknowledged);
-                far-sending =
-                    ap sendingBy
-                    (still-sending (inTicks a .terms) (awaits a room q d) (answer .header) r n ∙ sending-ends (inTicks a .terms) (sends a q d) .acknowledged);
-              };
-              primary = header a q;
-              as-asked = as-asked a q (l .last);
-              verdict = shown;
-              bytes =
-                  ap (λ (k : OwnReading). replyBy k (back n .room) 0) shown
-                  ∙ front-read (back n .room) (message.Reply 0) (length r)
-                  (record {
-                    whole = stands-whole (inTicks a .terms) (back n .exchange) (back n .room) (back-stands n);
-                    place = omega arith;
-                    within = omega (arith, c .short);
-                  })
-                  ∙ regot .bytes;
-              notes = regot .notes;
-              message = got .primary;
-              replied = replied;
-              same = got .same;
-              still =
-                  message-read (sentOf (answer .sends) .exchange) (lying (y .room) r) (got .primary) d Sent
-                  (stands-whole (inTicks b .terms) (answer .sends) (lying (y .room) r) replier-stands) (e .short) replied
-                  (keep-elsewhere (y .room) message.Send (message.Incoming 0) 0 (length d) r apart (omega arith) (e .short) ∙ got .bytes);
-            });
-      })
+  comes-back : ComesBack a b room far o p q f r g h n
+  comes-back = record { verdict = won .0; earned = won .1; header = e; replies-to = replies-to; returned = returned }
 
 pub same-reply : SameReply
-same-reply a b l room far o m q w d e wants f v good r c = comes-back a b l room far o m q w d e wants f v good r c
+same-reply a b l room far o m q h awaited p g n shown same f r typed k accepted =
+    comes-back a b l room far o m q h awaited p g n shown same f r typed k accepted

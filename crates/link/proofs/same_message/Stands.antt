@@ -1,91 +1,160 @@
--- What two ends are made of while messages are carried: settings that a start took, and transactions that calls of them left. So their
--- numbers are in their ranges. Assumes nothing.
+-- What an end is made of while messages are carried: a unit that calls left, its line idle, and what further calls leave of its
+-- transactions. So its numbers are in their ranges. Assumes nothing.
 use Prim.Native.Nat.{ℕ, zero, suc, _≤_}
-use mathlib.Core.Path.{_≡_, refl, ap, subst}
-use mathlib.Core.Bool.{true}
+use mathlib.Core.Path.{_≡_, refl, sym, ap, subst, _∙_}
+use mathlib.Core.Bool.{true, false}
 use mathlib.Core.List.{List, [], _∷_}
 use native.Mathlib.Omega.{arith}
 use lib.ListN.{length}
 use Rattle.cut.specs.Blocks.{mostBlocks}
+use Rattle.header.specs.Header.{headerOf}
 use Rattle.header.specs.declared.header.Header.{Header}
 use Rattle.settings.specs.declared.terms.Terms.{Terms}
-use Rattle.exchange.specs.Exchange.{freshExchange}
+use Rattle.room.specs.declared.Message.{Message}
+use Rattle.room.specs.declared.Message.the-variants as message
+use Rattle.room.proofs.Keeping.{keeps-only}
+use Rattle.line.specs.Line.{freshLine, busy}
+use Rattle.line.specs.declared.phase.Phase.the-variants.{Idle}
+use Rattle.line.proofs.Always.{always as line-always}
+use Rattle.place.specs.Fate.{fateOf}
+use Rattle.place.specs.Own.{ownKept}
+use Rattle.place.specs.Incoming.{incomingLength}
+use Rattle.place.specs.declared.Fate.{Fate}
+use Rattle.place.specs.declared.Fate.the-variants as fate
+use Rattle.exchange.specs.Exchange.{ownPlace, incomingPlace, savedNow}
 use Rattle.exchange.specs.Range.{exchangeInRange}
+use Rattle.exchange.specs.Request.{isSending}
+use Rattle.exchange.specs.Judge.{keepBy, thrown, replyBlock, messageBlock, beginsAt, judgeOf}
 use Rattle.exchange.specs.Rules.{Fours}
-use Rattle.exchange.specs.History.{Call, block, Held, called, Track, track, atStart}
+use Rattle.exchange.specs.History.{Call, block, tick, called, Track, track}
 use Rattle.exchange.specs.Theorems.{Reached}
-use Rattle.exchange.specs.Assembly.{headerIn, dataIn, Receiver, received}
-use Rattle.exchange.proofs.Areas.{always}
-use Rattle.exchange.proofs.Runs.{reached-more, reached-fresh, four-places, sound-reached}
+use Rattle.exchange.specs.Assembly.{headerIn, dataIn, Receiver, passes, received}
+use Rattle.exchange.proofs.Cases.{by-judge}
+use Rattle.exchange.proofs.AnyRoom.{track-alike}
+use Rattle.exchange.proofs.Runs.{reached-more, four-places, sound-reached}
 use Rattle.exchange.proofs.Inside.{exchange-reached-in-range}
 use Rattle.exchange.specs.declared.Exchange.{Exchange}
-use Rattle.link.specs.Answer.{outcomeNumber}
-use Rattle.link.specs.State.{startOf}
-use Rattle.link.specs.Refusals.{SetupFits, StartRuled, start-4, start-0, inTicks}
-use Rattle.link.specs.declared.Setup.{Setup}
-use Rattle.link.specs.declared.Outcome.the-variants.{Done}
-use Rattle.link.proofs.refusals.Start.{start-exactly, settings-sound}
-use Rattle.link.proofs.same_message.Calls.{Sound}
-
--- ---- the settings
-
--- a start that was not refused
-pub started : (a : Setup) → startOf a .outcome ≡ Done → SetupFits a
-started a e = by refl (start-exactly .number a 0 .0 (ap outcomeNumber e))
-  where
-    by : {n : ℕ} → n ≡ 0 → StartRuled a n → SetupFits a
-    by four (start-4 m) = absurd (omega (arith, four))
-    by none (start-0 f) = f
+use Rattle.link.specs.Setup.{settingsInRange}
+use Rattle.link.specs.Refusals.{SetupFits, inTicks}
+use Rattle.link.specs.History as link
+use Rattle.link.specs.Inside as inside
+use Rattle.link.specs.declared.Settings.{Settings}
+use Rattle.link.proofs.refusals.Start.{StartedAs, started-as, settings-sound}
+use Rattle.link.proofs.inside.Reached.{settings-stay, line-inside}
+use Rattle.link.proofs.inside.Places.{exchange-inside}
+use Rattle.link.proofs.inside.Agrees.{agrees}
+use Rattle.link.proofs.same_message.Calls.{unit, Sound}
 
 -- ---- the transactions
 
--- these transactions, and this room, are what calls from a fresh start left
-pub record Stands (c : Terms) (x : Exchange) (room : List ℕ) : Type 0 where
+-- these are what calls from a fresh start left, whatever rooms were lent to them
+pub record Stands (c : Terms) (x : Exchange) : Type 0 where
   pub track : Track
   pub reached : Reached c track
-  pub same-exchange : track .exchange ≡ x
-  pub same-room : track .room ≡ room
+  pub same : track .exchange ≡ x
 
 module _ (c : Terms) where
-  pub stands-fresh : (last : ℕ) (room : List ℕ) → length room ≡ 36864 → Stands c (freshExchange last) room
-  stands-fresh last room whole =
-      record { track = atStart last room; reached = reached-fresh c last room whole; same-exchange = refl; same-room = refl }
-
   -- one call more
-  pub stands-next : (x : Exchange) (room : List ℕ) (k : Call) → Stands c x room → Stands c (called c x room k .exchange) (called c x room k .room)
+  pub stands-next : (x : Exchange) (room : List ℕ) (k : Call) → Stands c x → Stands c (called c x room k .exchange)
   unfolding track
   stands-next x room k w =
-      let both : called c (w .track .exchange) (w .track .room) k ≡ called c x room k = λ i. called c (w .same-exchange i) (w .same-room i) k in
+      let there : Track = record { exchange = x; room = room; seen = w .track .seen } in
       record {
         track = track c (w .track) (k ∷ []);
         reached = reached-more c (w .track) (w .reached) (k ∷ []);
-        same-exchange = ap (λ (z : Held). z .exchange) both;
-        same-room = ap (λ (z : Held). z .room) both;
+        same = track-alike c (w .track) there (k ∷ []) (w .same) refl .0;
       }
 
-  -- k blocks more
-  pub stands-received : (r : Receiver) (h : Header) (d : List ℕ) → Stands c (r .exchange) (r .room)
-      → (k : ℕ) → Stands c (received c r h d k .exchange) (received c r h d k .room)
+  -- n ticks more
+  pub stands-later : (x : Exchange) → Stands c x → (n : ℕ) → Stands c (passes c x n)
+  unfolding passes
+  stands-later x w zero = w
+  stands-later x w (suc n) = stands-next (passes c x n) [] tick (stands-later x w n)
+
+  pub stands-fours : (x : Exchange) → Stands c x → Fours x
+  stands-fours x w = subst Fours (w .same) (four-places (w .track .exchange) (sound-reached c (w .track) (w .reached)))
+
+-- ---- the room
+
+kept-size : (f : Fate) (room : List ℕ) (m : Message) (have : ℕ) (d : List ℕ) → length (keepBy f room m have d) ≡ length room
+kept-size fate.Empty room m have d = refl
+kept-size fate.TooLong room m have d = refl
+kept-size (fate.Last n) room m have d = keeps-only room m have d .size
+kept-size (fate.More n) room m have d = keeps-only room m have d .size
+
+-- judging leaves it as long as it was
+judged-size : (c : Terms) (x : Exchange) (h d room : List ℕ) → length (judgeOf c x h d room .room) ≡ length room
+unfolding thrown savedNow replyBlock messageBlock beginsAt
+judged-size c x h d room =
+    let fate : ℕ → Fate = λ have. fateOf (headerOf h) have (length d) in
+    by-judge c x h d room (λ j. length (j .room) ≡ length room) (λ q. refl) (λ q u. refl)
+    (λ p q r. let n : ℕ = ownKept (ownPlace x p) .length in kept-size (fate n) room (message.Reply p) n d)
+    (λ p q r m. let n : ℕ = incomingLength (incomingPlace x p) in kept-size (fate n) room (message.Incoming p) n d)
+    (λ p gone f q r m o k s t. keeps-only room (message.Incoming p) 0 d .size) (λ n t r m. refl)
+
+-- ---- what blocks of a message leave
+
+module _ (c : Terms) (pauses : ℕ → ℕ) (r : Receiver) (h : Header) (d : List ℕ) where
+  pub stands-received : Stands c (r .exchange) → (k : ℕ) → Stands c (received c pauses r h d k .exchange)
   unfolding received
-  stands-received r h d w zero = w
-  stands-received r h d w (suc k) =
-      stands-next (received c r h d k .exchange) (received c r h d k .room) (block (headerIn h d (suc k)) (dataIn h d (suc k))) (stands-received r h d w k)
+  stands-received w zero = w
+  stands-received w (suc k) =
+      let y : Receiver = received c pauses r h d k in
+      stands-next c (passes c (y .exchange) (pauses (suc k))) (y .room) (block (headerIn h d (suc k)) (dataIn h d (suc k)))
+      (stands-later c (y .exchange) (stands-received w k) (pauses (suc k)))
 
-  pub stands-whole : (x : Exchange) (room : List ℕ) → Stands c x room → length room ≡ 36864
-  stands-whole x room w = subst (λ (l : List ℕ). length l ≡ 36864) (w .same-room) (always c (w .track) (w .reached) .whole)
+  pub received-size : (k : ℕ) → length (received c pauses r h d k .room) ≡ length (r .room)
+  unfolding received
+  received-size zero = refl
+  received-size (suc k) =
+      let y : Receiver = received c pauses r h d k in
+      judged-size c (passes c (y .exchange) (pauses (suc k))) (headerIn h d (suc k)) (dataIn h d (suc k)) (y .room) ∙ received-size k
 
-  pub stands-fours : (x : Exchange) (room : List ℕ) → Stands c x room → Fours x
-  stands-fours x room w = subst Fours (w .same-exchange) (four-places (w .track .exchange) (sound-reached c (w .track) (w .reached)))
+-- ---- the unit
 
--- an end of such settings and such transactions
-pub stands-sound : (a : Setup) → SetupFits a → (x : Exchange) (room : List ℕ) → Stands (inTicks a .terms) x room
-    → (k : ℕ) → 1 ≤ k → k ≤ mostBlocks → Sound (inTicks a) x k room
-stands-sound a f x room w k least most = record {
-  settings = settings-sound a f;
-  exchange =
-      subst (λ (y : Exchange). exchangeInRange y ≡ true) (w .same-exchange)
-      (exchange-reached-in-range (inTicks a .terms) (omega (arith, f .t3-most)) (omega (arith, f .t4-most)) (w .track) (w .reached));
-  least = least;
-  most = most;
-  whole = stands-whole (inTicks a .terms) x room w;
-}
+module _ (t : link.Track) (w : inside.Reached t) where
+  set : StartedAs (w .setup) (w .settings)
+  set = started-as (w .setup) (w .settings) (w .started)
+
+  pub settings-fit : SetupFits (w .setup)
+  settings-fit = set .fits
+
+  -- the settings are those of the start
+  pub settings-are : t .link .settings ≡ inTicks (w .setup)
+  settings-are = settings-stay t w ∙ set .in-ticks
+
+  pub stands : Stands (link.termsIn t) (t .link .exchange)
+  stands = let e = exchange-inside t w in record { track = link.exchangeTrack t (e .room); reached = e .reached; same = refl }
+
+  pub array-fits : length (t .link .received) ≡ 256
+  array-fits = line-always (link.limitsIn t) (link.lineTrack t) (line-inside t w) .room
+
+  -- with such transactions
+  pub sound : (x : Exchange) → Stands (link.termsIn t) x → (room : List ℕ) → length room ≡ 36864
+      → (k : ℕ) → 1 ≤ k → k ≤ mostBlocks → (n : ℕ) → Sound (t .link .settings) (passes (link.termsIn t) x n) k room
+  sound x v room whole k least most n =
+      let f = settings-fit in
+      let e = settings-are in
+      let T3 : link.termsIn t .t3 .0 ≤ 1200 = subst (λ (s : Settings). s .terms .t3 .0 ≤ 1200) (sym e) (omega (arith, f .t3-most)) in
+      let T4 : link.termsIn t .t4 .0 ≤ 1200 = subst (λ (s : Settings). s .terms .t4 .0 ≤ 1200) (sym e) (omega (arith, f .t4-most)) in
+      let u = stands-later (link.termsIn t) x v n in
+      record {
+        settings = subst (λ (s : Settings). settingsInRange s ≡ true) (sym e) (settings-sound (w .setup) f);
+        exchange =
+            subst (λ (y : Exchange). exchangeInRange y ≡ true) (u .same) (exchange-reached-in-range (link.termsIn t) T3 T4 (u .track) (u .reached));
+        least = least;
+        most = most;
+        whole = whole;
+        t1 = subst (λ (s : Settings). s .limits .t1 .0 ≤ 100) (sym e) (f .t1-most);
+        t2 = subst (λ (s : Settings). s .limits .t2 .0 ≤ 250) (sym e) (omega (arith, f .t2-most));
+      }
+
+  -- its line is idle
+  module _ (idle : t .link .line ≡ freshLine) where
+    pub not-sending : isSending (t .link .exchange) ≡ false
+    not-sending = agrees t w .same ∙ ap busy idle
+
+    pub idles : t .link ≡ unit (t .link .settings) Idle (t .link .received) (t .link .exchange) 1
+    idles =
+        let one = agrees t w .idle not-sending in
+        λ i. record { settings = t .link .settings; line = idle i; received = t .link .received; exchange = t .link .exchange; block = one i }

@@ -16,7 +16,7 @@ use Rattle.place.specs.declared.IncomingStage.{IncomingStage}
 use Rattle.place.specs.declared.IncomingStage.the-variants as stage
 use Rattle.place.specs.declared.Incoming.{Incoming}
 use Rattle.exchange.specs.Exchange.{incomingPlace}
-use Rattle.exchange.specs.Reading.{replyStage, incomingReading}
+use Rattle.exchange.specs.Reading.{headerBy, replyStage, incomingReading}
 use Rattle.exchange.specs.Request.{free-incoming}
 use Rattle.exchange.specs.Releases.{SameMessage}
 use Rattle.exchange.specs.Releases as side
@@ -31,7 +31,7 @@ use Rattle.exchange.proofs.Releases.{message-stays}
 use Rattle.exchange.proofs.Places.{no-place-exactly}
 use Rattle.link.specs.Reading.{incomingOf, messageBy}
 use Rattle.link.specs.History.{Track, exchangeTrack, termsIn, next, track}
-use Rattle.link.specs.Verdicts.{thereBy, completeBy, isThere, isComplete, CompleteExactly, TakesExactly, headerBy, lengthBy, MessageShown, MessageStays, MessageKept, CompleteStays, MessageRead}
+use Rattle.link.specs.Verdicts.{thereBy, completeBy, isThere, isComplete, CompleteExactly, TakesExactly, lengthBy, MessageShown, MessageStays, MessageKept, CompleteStays, MessageRead}
 use Rattle.link.proofs.inside.Places.{lent, places-inside}
 use Rattle.link.proofs.verdicts.Back.{exchange-back, fills-read}
 use Rattle.link.proofs.verdicts.Released.{KeptBut, released-or-spared, stays-once, stays-until}

@@ -35,7 +35,7 @@ use Rattle.exchange.proofs.Releases.{verdict-stays}
 use Rattle.exchange.proofs.Runs.{four-places}
 use Rattle.link.specs.Reading.{ownOf, replyBy}
 use Rattle.link.specs.History.{Track, exchangeTrack, termsIn, next, track}
-use Rattle.link.specs.Verdicts.{standingBy, standing, StandingRead, VerdictExactly, AnsweredExactly, FreeExactly, NoPlaceExactly, NoneAbove, requestIn, replyIn, RequestRead, ArrivingRead, WholeRead, NothingRead, ReplyRead, OwnStays, KeptUntilReleased, OneVerdict, Decided, VerdictFalls}
+use Rattle.link.specs.Verdicts.{standingBy, standing, StandingRead, VerdictExactly, AnsweredExactly, FreeExactly, NoPlaceExactly, NoneAbove, requestIn, replyIn, RequestRead, ArrivingRead, WholeRead, NoReplyRead, ReplyRead, OwnStays, KeptUntilReleased, OneVerdict, Decided, VerdictFalls}
 use Rattle.link.proofs.inside.Places.{lent, sound-inside, places-inside}
 use Rattle.link.proofs.verdicts.Back.{exchange-back, fills-read}
 use Rattle.link.proofs.verdicts.Released.{KeptBut, released-or-spared, stays-once, stays-until}
@@ -100,8 +100,8 @@ whole-read t w p k v b e =
     (proved.reply-shown c _ inside
     (proved.earned-whole c (t .own p) v (proved.verdict-exactly c _ inside v .0 (sym (standing-read t p) ∙ e)) b))
 
-pub nothing-read : NothingRead
-nothing-read t w p k n =
+pub no-reply-read : NoReplyRead
+no-reply-read t w p k n =
     subst place.AllZeros (sym (reply-in t p))
     (proved.nothing-shown (termsIn t) _ (places-inside t w .own p k) (subst (place.NoneToShow (t .own p)) (standing-read t p) n))
 

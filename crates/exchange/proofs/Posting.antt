@@ -1,0 +1,340 @@
+-- The message being sent is the one that was accepted last (`specs/Posting.antt`). Assumes nothing.
+use Prim.Native.Nat.{ℕ, _+_, _*_, _≤_, _<_}
+use mathlib.Core.Path.{_≡_, refl, sym, ap, _∙_, subst}
+use mathlib.Core.Bool.{Bool, true, false, cond, false≢true}
+use mathlib.Core.List.{List, [], _∷_}
+use native.Mathlib.Omega.{arith}
+use lib.ListN.{length}
+use borrow.Author.Tests.{eq-eqb}
+use Rattle.header.specs.Header.{InRange, headerOf}
+use Rattle.header.specs.declared.header.Header.{Header}
+use Rattle.settings.specs.declared.terms.Terms.{Terms}
+use Rattle.place.specs.Own.{primaryOf as ownPrimary}
+use Rattle.place.specs.OwnHistory as own
+use Rattle.place.proofs.Verdicts.{request-shown}
+use Rattle.place.specs.Incoming.{primaryOf as incomingPrimary, freshIncoming}
+use Rattle.place.specs.IncomingHistory as incoming
+use Rattle.place.specs.IncomingTheorems.{isComplete}
+use Rattle.place.proofs.Completing.{complete-stays}
+use Rattle.place.specs.declared.Standing.{Standing}
+use Rattle.place.specs.declared.Standing.the-variants as standing
+use Rattle.place.specs.declared.End.the-variants as end
+use Rattle.place.specs.declared.IncomingStage.{IncomingStage}
+use Rattle.place.specs.declared.IncomingStage.the-variants as arrival
+use Rattle.place.specs.declared.Incoming.{Incoming}
+use Rattle.table.specs.Own.{replyFor}
+use Rattle.table.specs.Incoming.{messageFor, openAlike, freeIncoming}
+use Rattle.table.specs.declared.Found.{Found}
+use Rattle.table.specs.declared.Found.the-variants.{At, Nowhere}
+use Rattle.exchange.specs.Exchange.{freshExchange, ownPlace, incomingPlace}
+use Rattle.exchange.specs.Send.{outgoingAt, outgoingOf}
+use Rattle.exchange.specs.Judge.{judgeOf}
+use Rattle.exchange.specs.Request.{sendingBy, isSending, Request, primary, reply, free-own, free-incoming, answerOf}
+use Rattle.exchange.specs.Range.{sendingInRange, SendingFits}
+use Rattle.exchange.specs.Reading.{incomingReading, headerBy, ownReading}
+use Rattle.exchange.specs.Refusals.{Replied}
+use Rattle.exchange.specs.Rules.{Fours}
+use Rattle.exchange.specs.Numbers.{numberShown}
+use Rattle.exchange.specs.History.{Call, block, tick, acknowledged, failed, request, called, Joined, ofNew, ofReply, joins, ifKept, joinsAsked, sees, Track, next, track, atStart}
+use Rattle.exchange.specs.Releases as side
+use Rattle.exchange.specs.Theorems.{lengthSent}
+use Rattle.exchange.specs.Watching.{toldBy, foundAt, takenAt, acceptedAs, sentFrom, replyFrom, ownTaken, ownSees, OwnAt, watch}
+use Rattle.exchange.specs.Underway.{Way, none, wayAt, way, isOnway, Underway, ReplyAt, replySees}
+use Rattle.exchange.specs.Posting.{Post, post, nothingPosted, primaryAsked, replyAsked, postAsked, postSees, OutgoingAccepted}
+use Rattle.exchange.specs.declared.Sending.{Sending}
+use Rattle.exchange.specs.declared.Sending.the-variants as sending
+use Rattle.exchange.specs.declared.Exchange.{Exchange}
+use Rattle.exchange.specs.declared.Outgoing.the-variants as outgoing
+use Rattle.exchange.specs.declared.OwnReading.{OwnReading}
+use Rattle.exchange.specs.declared.IncomingReading.{IncomingReading}
+use Rattle.exchange.specs.declared.Note.{Note}
+use Rattle.exchange.specs.declared.Note.the-variants.{Kept, Misrouted, Duplicate, Stray, NoPlace, TooLong, Empty}
+use Rattle.exchange.specs.declared.Asked.{Asked}
+use Rattle.exchange.specs.declared.Asked.the-variants.{Taken, Refused}
+use Rattle.exchange.specs.declared.Primary.{Primary}
+use Rattle.exchange.proofs.Accepting.{refused-number, refused-changes-nothing, accepted-opens, accepted-replies, accepted-releases}
+use Rattle.exchange.proofs.BeingSent.{sending-ends}
+use Rattle.exchange.proofs.Sides.{by-event, nothingSeen}
+use Rattle.exchange.proofs.OneCall.{call}
+use Rattle.exchange.proofs.Ranges.{sending-fits-exactly}
+use Rattle.exchange.proofs.Inside.{Ranged, one-ranged}
+use Rattle.exchange.proofs.Runs.{Sound, four-places, sound-fresh, run-any}
+use Rattle.exchange.proofs.Watching.{own-watched-on, watched-start}
+use Rattle.exchange.proofs.Underway.{none-apart, underway-open, underway-on}
+use Rattle.exchange.proofs.Replies.{reply-watched-on}
+use Rattle.exchange.proofs.Repeated.{any-fresh}
+use Rattle.exchange.proofs.Numbering.{given-shown, numbers-kept-on}
+
+-- ---- what the onlookers of the places know of it
+
+-- a request that is underway keeps its header
+module _ (s : own.Seen) where
+  answered-header : (t : Bool) (a : own.Answer) (b : Header) (n : ℕ) → cond t (own.answered a s b n) s .header ≡ s .header
+  answered-header true own.passed b n = refl
+  answered-header true own.kept b n = refl
+  answered-header true own.spoilt b n = refl
+  answered-header false a b n = refl
+
+  ended-header : (t : Bool) (r : own.Request) → (cond t (own.acked r s) s .header ≡ s .header) × (cond t (own.gaveUp r s) s .header ≡ s .header)
+  ended-header true own.none = (refl, refl)
+  ended-header true own.underway = (refl, refl)
+  ended-header true own.acknowledged = (refl, refl)
+  ended-header true own.lost = (refl, refl)
+  ended-header false r = (refl, refl)
+
+  asked-header : (c : Terms) (x : Exchange) → s .request ≡ own.underway → (t : Bool) (r : Request) → cond t (ownTaken c x s r) s .header ≡ s .header
+  asked-header c x u true (primary q d) = ap (λ (r : own.Request). own.asked r s (acceptedAs c x q) .header) u
+  asked-header c x u true (reply k f d) = refl
+  asked-header c x u true (free-own k) = refl
+  asked-header c x u true (free-incoming k) = refl
+  asked-header c x u false r = refl
+
+  header-kept : (c : Terms) (p : ℕ) (x : Exchange) (room : List ℕ) → s .request ≡ own.underway → (k : Call) → ownSees c p x room s k .header ≡ s .header
+  header-kept c p x room u (block h d) =
+      answered-header (foundAt (replyFor (x .own) (headerOf h)) p) (toldBy (judgeOf c x h d room .answer .note)) (headerOf h) (length d)
+  header-kept c p x room u tick = refl
+  header-kept c p x room u acknowledged = ended-header (sentFrom (x .sending) p) (s .request) .0
+  header-kept c p x room u failed = ended-header (sentFrom (x .sending) p) (s .request) .1
+  header-kept c p x room u (request r) = asked-header c x u (takenAt (answerOf c x r room .answer .asked) p) r
+
+-- a message whose reply is on its way keeps its own
+replying-at : (z : IncomingStage) → isOnway (wayAt z) ≡ true → incoming.showsAt z ≡ incoming.replying
+replying-at arrival.Free e = absurd (false≢true e)
+replying-at (arrival.Open a) e = absurd (false≢true e)
+replying-at (arrival.Complete n) e = absurd (false≢true e)
+replying-at (arrival.Replying n) e = refl
+replying-at (arrival.Replied n end.Sent) e = absurd (false≢true e)
+replying-at (arrival.Replied n end.Failed) e = absurd (false≢true e)
+
+replying-kept : (c : Terms) (i : Incoming) → incoming.shows i ≡ incoming.replying → (e : incoming.Event c) → incoming.step i e .header ≡ i .header
+replying-kept c i r (incoming.begin h n q b) = complete-stays c i .kept (ap isComplete r) (incoming.begin h n q b) refl .1
+replying-kept c i r (incoming.block h n q) = complete-stays c i .kept (ap isComplete r) (incoming.block h n q) refl .1
+replying-kept c i r incoming.tick = complete-stays c i .kept (ap isComplete r) incoming.tick refl .1
+replying-kept c i r incoming.answer = complete-stays c i .kept (ap isComplete r) incoming.answer refl .1
+replying-kept c i r incoming.sent = complete-stays c i .kept (ap isComplete r) incoming.sent refl .1
+replying-kept c i r incoming.failed = complete-stays c i .kept (ap isComplete r) incoming.failed refl .1
+replying-kept c i r incoming.release = ap (λ (j : Incoming). j .header) (complete-stays c i .on-its-way r)
+
+-- ---- one call
+
+-- what is known between calls: the message being sent is as it was posted, and is one of a place; what the onlookers of the places have seen
+-- and, if F holds, that a number has no more than its bits
+pub record Carries (F : Type 0) (c : Terms) (x : Exchange) (s : Post) : Type 0 where
+  pub size : isSending x ≡ true → lengthSent (x .sending) ≡ length (s .text)
+  pub message : F → isSending x ≡ true → InRange (s .header) → outgoingOf x ≡ outgoing.Message (s .header) (length (s .text))
+  ranged : Ranged x
+  fits : F → x .numbers .last ≤ 65535
+  own : (p : ℕ) → p < 4 → (z : own.Seen) × OwnAt c p x z × Underway p x z
+  way : (p : ℕ) → p < 4 → (z : Way) × ReplyAt p x z
+
+-- of the message alone
+record Holds (F : Type 0) (x : Exchange) (s : Post) : Type 0 where
+  size : isSending x ≡ true → lengthSent (x .sending) ≡ length (s .text)
+  message : F → isSending x ≡ true → InRange (s .header) → outgoingOf x ≡ outgoing.Message (s .header) (length (s .text))
+
+-- the header is that of its place
+same-message : (z : Sending) (x y : Exchange) → ((p n : ℕ) → z ≡ sending.Primary p n → ownPrimary (ownPlace y p) ≡ ownPrimary (ownPlace x p))
+    → ((p f n : ℕ) → z ≡ sending.Reply p f n → incomingPlace y p .header ≡ incomingPlace x p .header) → outgoingAt z y ≡ outgoingAt z x
+same-message sending.Nothing x y o i = refl
+same-message (sending.Primary p n) x y o i = ap (λ (h : Header). outgoing.Message h n) (o p n refl)
+same-message (sending.Reply p f n) x y o i = ap (λ (h : Header). outgoing.Message (replyAsked h f) n) (i p f n refl)
+
+-- what is read of a complete message
+complete-read : (x : Exchange) (p n : ℕ) → incomingPlace x p .stage ≡ arrival.Complete n → headerBy (incomingReading x p) ≡ incomingPrimary (incomingPlace x p)
+unfolding incomingReading
+complete-read x p n e = rw e
+
+open-used : (z : Standing) → z ≡ standing.Open → z ≡ standing.Free → ⊥
+open-used z e f = let n : _≡_ {A = ℕ} 0 1 = cc in omega arith
+
+module _ (F : Type 0) (c : Terms) (x : Exchange) (room : List ℕ) (four : Fours x) (s : Post) (g : Carries F c x s) where
+  -- its place is one of four
+  placed : (z : Sending) → x .sending ≡ z → SendingFits z
+  placed z e = sending-fits-exactly z .0 (ap sendingInRange (sym e) ∙ g .ranged)
+
+  module _ (k : Call) where
+    abbrev y : Exchange
+    y = called c x room k .exchange
+
+    -- what the onlookers of the places have seen then
+    own-on : (p : ℕ) → p < 4 → (z : own.Seen) × OwnAt c p y z × Underway p y z
+    own-on p less =
+        let w = g .own p less in
+        (ownSees c p x room (w .0) k, own-watched-on c x room (four .own) p less (w .0) k (w .1), underway-on c x room four p less (w .0) (w .1) (w .2) k)
+
+    way-on : (p : ℕ) → p < 4 → (z : Way) × ReplyAt p y z
+    way-on p less = let w = g .way p less in (replySees c p x room (w .0) k, reply-watched-on c x room four p less (w .0) (w .1) k)
+
+    numbers-on : F → y .numbers .last ≤ 65535
+    numbers-on f = numbers-kept-on c x room four (record { last = x .numbers .last; latest = x .numbers .latest }) k (record { last = refl; latest = refl; fits = g .fits f }) .fits
+
+    -- the same message is being sent
+    module _ (same : y .sending ≡ x .sending) where
+      own-same : (p n : ℕ) → x .sending ≡ sending.Primary p n → ownPrimary (ownPlace y p) ≡ ownPrimary (ownPlace x p)
+      unfolding own-on
+      own-same p n e =
+          let less : p < 4 = let f = placed (sending.Primary p n) e in omega arith in
+          let w = g .own p less in
+          let v = own-on p less in
+          let here : sentFrom (x .sending) p ≡ true = ap (λ (z : Sending). sentFrom z p) e ∙ eq-eqb p p refl in
+          let before : w .0 .request ≡ own.underway = w .2 .1 here in
+          let after : v .0 .request ≡ own.underway = v .2 .1 (ap (λ (z : Sending). sentFrom z p) same ∙ here) in
+          request-shown c _ (v .1) (open-used _ (underway-open c p y (v .0) (v .1) after)) ∙ header-kept (w .0) c p x room before k
+          ∙ sym (request-shown c _ (w .1) (open-used _ (underway-open c p x (w .0) (w .1) before)))
+
+      incoming-same : (p f n : ℕ) → x .sending ≡ sending.Reply p f n → incomingPlace y p .header ≡ incomingPlace x p .header
+      incoming-same p f n e =
+          let less : p < 4 = let f = placed (sending.Reply p f n) e in omega arith in
+          let i = incomingPlace x p in
+          let w = g .way p less in
+          let on : isOnway (way i) ≡ true = ap isOnway (w .1 .0) ∙ w .1 .1 ∙ ap (λ (z : Sending). replyFrom z p) e ∙ eq-eqb p p refl in
+          by-event (λ (j : Incoming) z. j .header ≡ i .header) (call c x p less side.incoming room k (four .incoming) (nothingSeen side.incoming)) refl
+          (λ e t. replying-kept c i (replying-at (i .stage) on) e)
+
+      stays : Holds F y s
+      stays =
+          let still : outgoingOf y ≡ outgoingOf x = ap (λ (z : Sending). outgoingAt z y) same ∙ same-message (x .sending) x y own-same incoming-same in
+          let before : isSending y ≡ true → isSending x ≡ true = λ z. ap sendingBy (sym same) ∙ z in
+          record {
+            size = λ z. ap lengthSent same ∙ g .size (before z);
+            message = λ f z r. still ∙ g .message f (before z) r;
+          }
+
+  -- none is
+  over : (z : Exchange) → z .sending ≡ sending.Nothing → Holds F z s
+  over z e =
+      let none : isSending z ≡ true → ⊥ = λ t. false≢true (ap sendingBy (sym e) ∙ t) in
+      record { size = λ t. absurd (none t); message = λ f t. absurd (none t) }
+
+  -- a message was accepted
+  began : (z : Exchange) (h m : Header) (d : List ℕ) → lengthSent (z .sending) ≡ length d → (F → m ≡ h) → (InRange m → outgoingOf z ≡ outgoing.Message m (length d)) → Holds F z (post h d)
+  began z h m d size same out = record {
+    size = λ t. size;
+    message = λ f t r. out (subst InRange (sym (same f)) r) ∙ ap (λ (k : Header). outgoing.Message k (length d)) (same f);
+  }
+
+  asked : (r : Request) (a : Asked) → answerOf c x r room .answer .asked ≡ a
+      → (let z = answerOf c x r room .answer .exchange in Holds F z (postAsked c (incomingReading x) (ownReading z) r a s))
+  asked r (Refused n) e =
+      subst (λ (z : Exchange). Holds F z s) (sym (refused-changes-nothing c x r room (refused-number _ n e) .0)) (record { size = g .size; message = g .message })
+  asked (primary q d) (Taken p) e =
+      let o = accepted-opens c x q d room four p e in
+      let z = answerOf c x (primary q d) room .answer .exchange in
+      let a = o .as-asked in
+      began z (primaryAsked c q (numberShown (ownReading z p))) (o .header) d (ap lengthSent (o .sending))
+      (λ f i. record {
+        r = a .r i;
+        device = a .device i;
+        w = a .w i;
+        stream = a .stream i;
+        function = a .function i;
+        e = a .e i;
+        number = a .number i;
+        system = (a .system ∙ ap (λ (m : ℕ). q .source * 65536 + m) (sym (given-shown x four (g .fits f) c q d room p _ _ o))) i;
+      })
+      (o .outgoing)
+  asked (reply k f d) (Taken p) e =
+      let o = accepted-replies c x k f d room p e in
+      let z = answerOf c x (reply k f d) room .answer .exchange in
+      let a = o .replies-to in
+      let read : headerBy (incomingReading x p) ≡ incomingPrimary (incomingPlace x k) =
+      ap (λ (j : ℕ). headerBy (incomingReading x j)) (o .same) ∙ complete-read x k (o .size) (o .was) in
+      began z (replyAsked (headerBy (incomingReading x p)) f) (o .header) d (ap lengthSent (o .sending))
+      (λ t. (λ i. record {
+        r = a .r i;
+        device = a .device i;
+        w = a .w i;
+        stream = a .stream i;
+        function = a .function i;
+        e = a .e i;
+        number = a .number i;
+        system = a .system i;
+      })
+      ∙ ap (λ (h : Header). replyAsked h f) (sym read))
+      (λ t. o .outgoing)
+  asked (free-own k) (Taken p) e = stays (request (free-own k)) (accepted-releases .own c x k room p e .sending)
+  asked (free-incoming k) (Taken p) e = stays (request (free-incoming k)) (accepted-releases .incoming c x k room p e .sending)
+
+  posted-on : (k : Call) → Holds F (called c x room k .exchange) (postSees c x room s k)
+  posted-on (block h d) = stays (block h d) (sending-ends c x .judged h d room)
+  posted-on tick = stays tick (sending-ends c x .ticked)
+  posted-on acknowledged = over _ (sending-ends c x .acknowledged)
+  posted-on failed = over _ (sending-ends c x .failed)
+  posted-on (request r) = asked r (answerOf c x r room .answer .asked) refl
+
+  pub carries-on : (k : Call) → Carries F c (called c x room k .exchange) (postSees c x room s k)
+  carries-on k = record {
+    size = posted-on k .size;
+    message = posted-on k .message;
+    ranged = one-ranged c x room four (g .ranged) k;
+    fits = numbers-on k;
+    own = own-on k;
+    way = way-on k;
+  }
+
+-- ---- any calls
+
+pub carries-start : (c : Terms) (last : ℕ) → Carries (last ≤ 65535) c (freshExchange last) nothingPosted
+carries-start c last = record {
+  size = λ t. absurd (false≢true t);
+  message = λ f t. absurd (false≢true t);
+  ranged = refl;
+  fits = λ f. f;
+  own = λ p less. (own.nothingSeen, watched-start side.own c p last, (λ e. absurd (none-apart e), λ e. absurd (false≢true e)));
+  way = λ p less. (none, (ap way (any-fresh freshIncoming 4 p), refl));
+}
+
+pub carries-all : (F : Type 0) (c : Terms) (t : Track) (s : Post) (ks : List Call) → Sound (t .exchange) → Carries F c (t .exchange) s
+    → Carries F c (track c t ks .exchange) (watch c (postSees c) t s ks)
+carries-all F c = run-any c (postSees c) (Carries F c) (λ x lent s k w g. carries-on F c x lent (four-places x w) s g k)
+
+pub outgoing-accepted : OutgoingAccepted
+outgoing-accepted c last room fits whole ks =
+    let g = carries-all (last ≤ 65535) c (atStart last room) nothingPosted ks (sound-fresh last room whole) (carries-start c last) in
+    record { size = g .size; message = g .message fits }
+
+-- ---- its data is what the onlooker of the areas has joined
+
+module _ (s : Joined) (d : List ℕ) where
+  new-out : (a f : Found) → ofNew a f s d .outgoing ≡ s .outgoing
+  new-out (At p) f = refl
+  new-out Nowhere (At p) = refl
+  new-out Nowhere Nowhere = refl
+
+  joined-out : (r m a f : Found) → ofReply r m a f s d .outgoing ≡ s .outgoing
+  joined-out (At p) m a f = refl
+  joined-out Nowhere (At p) a f = refl
+  joined-out Nowhere Nowhere a f = new-out a f
+
+kept-out : (n : Note) (s more : Joined) → more .outgoing ≡ s .outgoing → ifKept n s more .outgoing ≡ s .outgoing
+kept-out Kept s more e = e
+kept-out Misrouted s more e = refl
+kept-out Duplicate s more e = refl
+kept-out Stray s more e = refl
+kept-out NoPlace s more e = refl
+kept-out TooLong s more e = refl
+kept-out Empty s more e = refl
+
+module _ (c : Terms) (x : Exchange) (room : List ℕ) (j : Joined) (s : Post) (e : j .outgoing ≡ s .text) where
+  asked-text : (r : Request) (a : Asked) (before : ℕ → IncomingReading) (after : ℕ → OwnReading) → joinsAsked r a j .outgoing ≡ postAsked c before after r a s .text
+  asked-text (primary q d) (Taken p) before after = refl
+  asked-text (reply k f d) (Taken p) before after = refl
+  asked-text (free-own k) (Taken p) before after = e
+  asked-text (free-incoming k) (Taken p) before after = e
+  asked-text r (Refused n) before after = e
+
+  text-on : (k : Call) → sees c x room j k .outgoing ≡ postSees c x room s k .text
+  text-on (block h d) =
+      let b = headerOf h in
+      kept-out (judgeOf c x h d room .answer .note) j (joins x h j d)
+      (joined-out j d (replyFor (x .own) b) (messageFor (x .incoming) b) (openAlike (x .incoming) b) (freeIncoming (x .incoming))) ∙ e
+  text-on tick = e
+  text-on acknowledged = e
+  text-on failed = e
+  text-on (request r) =
+      let a = answerOf c x r room .answer in asked-text r (a .asked) (incomingReading x) (ownReading (a .exchange))
+
+pub text-all : (c : Terms) (t : Track) (s : Post) (ks : List Call) → t .seen .outgoing ≡ s .text → track c t ks .seen .outgoing ≡ watch c (postSees c) t s ks .text
+unfolding track watch
+text-all c t s [] e = e
+text-all c t s (k ∷ ks) e = text-all c (next c t k) _ ks (text-on c (t .exchange) (t .room) (t .seen) s e k)
