@@ -1,8 +1,9 @@
-"""The link unit, written a second time, straight from the rules of 01.
+"""The link unit, written a second time, straight from the rules of 01 and of
+request 1 of 02 (a reply that overtakes the ACK).
 
 Nothing here is shared with the proved program.  The aim is that a reader can
 hold this file beside 01 and check it sentence by sentence.  Comments name the
-sentence of 01 (or the number of the reading) that a piece is there for.
+sentence of 01 or 02 (or the number of the reading) that a piece is there for.
 
 Every call answers a triple: refusal number or 0, bytes put out, note.
 """
@@ -22,6 +23,7 @@ SILENCE = "silence"
 # The states of an own place.
 FREE = "free"
 SENDING = "its primary is being sent or held"
+PUT_OUT = "sent or held, but its last block has been out: a reply is awaited"
 AWAITED = "a reply is awaited, T3 runs"
 OPEN = "an open message, T4 runs"        # an open reply, or an open incoming
 ENDED = "has its verdict"
@@ -219,6 +221,26 @@ class Unit:
             # "A reply of ours ends sent or failed in its incoming place."
             owner.state = REPLIED
 
+    def put_block_out(self):
+        """The whole block leaves.  02: "A primary with W = 1 now awaits its
+        reply from the call that first puts out the bytes of its last block."
+        No timer runs yet; at a retry nothing is left to change."""
+        sending = self.sending
+        self.phase = DRAINING
+        if (isinstance(sending.owner, OwnPlace) and sending.owner.w == 1
+                and sending.at == len(sending.blocks) - 1):
+            sending.owner.state = PUT_OUT
+        return on_the_line(sending.blocks[sending.at])
+
+    def withdraw(self, place):
+        """02: "If the reply's first block is kept, or breaks the reply, while
+        that block is held, the held block is withdrawn and counts as sent,
+        and no T3 runs."  The block is that of the place whose reply it is:
+        a place is PUT_OUT only while its primary is the message being sent."""
+        if place.state == PUT_OUT:
+            assert self.sending.owner is place
+            self.sending = None
+
     def block_acknowledged(self):
         """The block is sent.  The message's next block goes out with ENQ in
         the same call."""
@@ -238,8 +260,8 @@ class Unit:
         elif owner.w == 0:
             self.give_verdict(owner, V_SENT)
         else:
-            # "A reply is awaited, and T3 runs, from the ACK of the primary's
-            # last block."
+            # T3 "runs from the ACK of the primary's last block"; that the
+            # reply is awaited began earlier, see put_block_out.
             owner.state = AWAITED
             owner.timer = 0
 
@@ -280,9 +302,7 @@ class Unit:
 
         if phase == WAIT_EOT:
             if b == EOT:
-                self.phase = DRAINING
-                block = self.sending.blocks[self.sending.at]
-                return 0, on_the_line(block), NOTHING
+                return 0, self.put_block_out(), NOTHING
             if b == ENQ and self.host:
                 # The slave gives way.  The block is held: it stays in
                 # self.sending, at the same index (reading 8), and goes out
@@ -318,8 +338,10 @@ class Unit:
             if byte_sum(content) != said:
                 self.begin_silence(BAD_SUM)
                 return 0, b"", NOTHING
-            out = self.end_receive(ACK)
-            return 0, out, self.judge(content)
+            # The block is judged first: one that it withdraws is no more
+            # held, and no ENQ of it follows the ACK.
+            note = self.judge(content)
+            return 0, self.end_receive(ACK), note
 
         # Silence: "bytes are dropped and restart T1".
         self.timer = 0
@@ -398,6 +420,7 @@ class Unit:
             if continued is not None:
                 self.break_message(continued)
             elif awaited is not None:
+                self.withdraw(awaited)
                 self.break_message(awaited)
             return EMPTY
 
@@ -412,6 +435,7 @@ class Unit:
             place.data += data
         elif awaited is not None:
             place = awaited
+            self.withdraw(place)
             self.begin_message(place, header, data)
         else:
             place = self.place_for_primary(header)
@@ -446,7 +470,7 @@ class Unit:
         system bytes, even function, number 1, or 0 with E = 1.  Reading 13:
         stream, W and the function's value are not looked at here."""
         for place in self.own:
-            if (place.state == AWAITED
+            if (place.state in (PUT_OUT, AWAITED)
                     and header.system == place.system
                     and header.function % 2 == 0
                     and header.begins()):

@@ -20,8 +20,8 @@ sys.dont_write_bytecode = True       # leave no folder behind
 import plain_bench
 import plain_unit as pu
 from plain_unit import (ENQ, EOT, ACK, NAK, IDLE, WAIT_EOT, DRAINING, WAIT_ACK,
-                        WAIT_LENGTH, BODY, SILENCE, FREE, SENDING, AWAITED,
-                        OPEN, ENDED, COMPLETE, REPLYING, REPLIED)
+                        WAIT_LENGTH, BODY, SILENCE, FREE, SENDING, PUT_OUT,
+                        AWAITED, OPEN, ENDED, COMPLETE, REPLYING, REPLIED)
 
 RECEIVING = (WAIT_LENGTH, BODY, SILENCE)
 MOST_ON_A_LINE = 511          # "B " and 511 bytes in hex are 1,024 bytes
@@ -34,7 +34,8 @@ MOST_ON_A_LINE = 511          # "B " and 511 bytes in hex are 1,024 bytes
 # state has no use fall away).
 USUAL_KINDS = dict(primary=10, first=8, go_on=24, answer=24, restart=3,
                    like_complete=1, again=3, again_data=1, recent=2, empty=4,
-                   stale=2, off=5, stray=1, number0=1, all_ff=0.3, early=4)
+                   stale=2, off=5, stray=1, number0=1, all_ff=0.3, early=4,
+                   overtake=30)
 
 USUAL = dict(
     right=0.90,        # the far end does what the line waits for
@@ -44,6 +45,9 @@ USUAL = dict(
     odd=0.03,          # a step is a readable line of an odd form
     wait=0.05,         # a step waits, near the end of some timer
     contend=0.05,      # ENQ while the unit waits for EOT
+    lose_ack=0.1,      # the far end's ACK is lost
+    contend_out=0.5,   # ENQ while the unit waits for EOT with a last block
+                       # that was out before: the far end has its reply ready
     ask=0.06,          # the user asks while the line is receiving
     good_user=0.85,    # the user's call is one that makes sense
     open=3, reply=5, release=3,      # what the user likes to do
@@ -75,6 +79,7 @@ def mood(**changes):
 
 MOODS = {
     "polite": mood(right=0.99, damage=0.0, misroute=0.0, junk=0.0, wait=0.02,
+                   lose_ack=0.01,
                    kinds=dict(again=0.3, stale=0.2, off=0.3, stray=0.1,
                               empty=0.2, restart=0.3, number0=0.1)),
     "usual": mood(),
@@ -85,12 +90,14 @@ MOODS = {
                                           number0=3, early=4)),
     "quiet": mood(right=0.6, wait=0.3, patience=0.15, user=0.2),
     "contention": mood(contend=0.5, ask=0.3, user=0.35, open=6, release=4,
+                       lose_ack=0.3,
                        user_data="long"),
     "long": mood(right=0.985, wait=0.01, damage=0.01, misroute=0.01,
                  user=0.07, single=0.05, last_block=0.03, data="full",
                  many=0.1, look=0.04, start=0.001, long_message=0.02,
+                 lose_ack=0.4, open=8,
                  kinds=dict(go_on=60, primary=1, first=4, again=1, off=1,
-                            restart=0.3, stale=0.5, empty=0.2)),
+                            restart=0.3, stale=0.5, empty=0.2, overtake=2)),
     "small": mood(right=0.98, wait=0.01, damage=0.01, misroute=0.01,
                   user=0.08, single=0.05, last_block=0.01, data="tiny",
                   many=0.7, start=0.001,
@@ -99,19 +106,22 @@ MOODS = {
     "wrap": mood(user=0.4, open=8, release=6, single=0.9, data="tiny",
                  user_data="tiny", wants_reply=0.5),
     "full": mood(user=0.35, open=8, reply=2, release=0.5, wants_reply=0.95,
-                 good_user=0.8, last_block=0.1,
+                 good_user=0.8, last_block=0.1, lose_ack=0.4,
                  kinds=dict(primary=20, first=16, answer=2, restart=6,
-                            like_complete=4)),
+                            like_complete=4, overtake=8)),
     "replies": mood(user=0.4, reply=12, open=1, release=4, wants_reply=0.9,
                     kinds=dict(primary=30), user_data="long", contend=0.2,
                     ask=0.2, right=0.8),
     "chatter": mood(junk=0.25, odd=0.25, look=0.15, start=0.02,
                     refused_start=0.05),
+    "overtaken": mood(lose_ack=0.5, contend_out=0.8, wants_reply=0.9, user=0.3,
+                      open=8, release=5, right=0.95, contend=0.25, ask=0.1,
+                      kinds=dict(primary=8, first=4, recent=4, early=20)),
     "edges": mood(wait=0.2, patience=0.25, right=0.97, user=0.2, damage=0.0, misroute=0.01,
                   single=0.4, last_block=0.15, split=0.6,
                   kinds=dict(stale=6, answer=30, go_on=40, restart=4)),
 }
-MOOD_NAMES = sorted(MOODS)
+MOOD_NAMES = sorted(MOODS) + ["overtaken"] * 2
 
 
 # ---------------------------------------------------------------------------
@@ -200,6 +210,8 @@ class Writer:
                            rng.randint(65520, 65535), rng.randint(0, 65535)))
         if self.mood_name == "wrap":
             last = rng.randint(65525, 65535)
+        if self.mood_name == "overtaken":
+            rty = rng.choice((1, 1, 2, 3, 31))
         return [t1, t2, t3, t4, rty, device, duplicates, last]
 
     def start_line(self, settings):
@@ -207,7 +219,8 @@ class Writer:
         if self.chance(0.05):
             i = self.rng.randrange(8)
             numbers[i] = "0" * self.rng.randint(1, 9) + numbers[i]
-        return self.rng.choice("HE") + " " + " ".join(numbers)
+        roles = "HHHE" if self.mood_name == "overtaken" else "HE"
+        return self.rng.choice(roles) + " " + " ".join(numbers)
 
     def start(self):
         answer = self.put(self.start_line(self.settings()))
@@ -369,6 +382,7 @@ class Writer:
         not_awaited = [p for p in u.own if p.state in (OPEN, ENDED)]
         not_awaited += [p for p in u.own if p.state == FREE and p.system]
         early = [p for p in u.own if p.state == SENDING]
+        out = [p for p in u.own if p.state == PUT_OUT]
 
         weights = dict(self.mood["kinds"])
         if not opened:
@@ -383,6 +397,8 @@ class Writer:
             weights["stale"] = 0
         if not early:
             weights["early"] = 0
+        if not out:
+            weights["overtake"] = 0
         if not self.sent:
             weights["again"] = weights["again_data"] = weights["recent"] = 0
         if 22 <= self.note <= 27:
@@ -394,7 +410,7 @@ class Writer:
                for i, p in enumerate(places)):
             weights["restart"] *= 4
         if len(open_in) + len(complete) == 4 and self.mood_name != "full":
-            weights["primary"] *= 0.3
+            weights["primary"] *= 3 if out else 0.3
             weights["first"] *= 0.3
         kind = self.pick(weights)
 
@@ -429,8 +445,8 @@ class Writer:
         elif kind == "empty":
             if opened and self.chance(0.6):
                 content = self.continuing(rng.choice(opened), data=b"")
-            elif awaited and self.chance(0.6):
-                content = self.replying(rng.choice(awaited), 0)[:10]
+            elif (out or awaited) and self.chance(0.6):
+                content = self.replying(rng.choice(out or awaited), 0)[:10]
             elif open_in and self.chance(0.5):
                 content = self.primary(0, rng.choice(open_in).first.system)[:10]
             else:
@@ -439,6 +455,17 @@ class Writer:
             content = self.replying(rng.choice(not_awaited))
         elif kind == "early":
             content = self.replying(rng.choice(early))
+        elif kind == "overtake":
+            # The reply, though its ACK has not been heard; now and then one
+            # that breaks, or one thing in it is off.
+            content = self.replying(out[0])
+            sooner = [c for c in self.sent if c[6:10] == out[0].system]
+            if sooner and self.chance(0.5):
+                content = sooner[-1]     # it came before: a duplicate, or not
+            elif self.chance(0.1):
+                content = self.replying(out[0], 0)[:10]
+            elif self.chance(0.1):
+                content = self.spoil_header(content)
         elif kind == "off":
             content = self.spoil_header(self.continuing(rng.choice(opened)))
         elif kind == "stray":
@@ -448,8 +475,8 @@ class Writer:
                                               rng.randrange(32768))),
                                   self.fresh_system()) + self.some_data()
         elif kind == "number0":
-            if awaited and self.chance(0.5):
-                content = self.replying(rng.choice(awaited), 0)
+            if (out or awaited) and self.chance(0.5):
+                content = self.replying(rng.choice(out or awaited), 0)
             else:
                 content = self.primary(0)
             content = content[:4] + bytes(2) + content[6:]
@@ -604,11 +631,15 @@ class Writer:
         if self.opened() and self.chance(self.mood["many"]):
             self.give(self.run_of_blocks())
             return
+        if (all(p.state != FREE for p in self.unit.incoming)
+                and self.chance(0.1)):
+            self.lose_an_ack()
         self.give(bytes([ENQ]) + self.raw_block())
 
     def far_eot(self, right):
         rng = self.rng
-        if self.chance(self.mood["contend"]):
+        been_out = any(p.state == PUT_OUT for p in self.unit.own)
+        if self.chance(self.mood["contend_out" if been_out else "contend"]):
             if self.chance(0.4):
                 self.put_bytes(bytes([ENQ]))
             else:
@@ -636,7 +667,12 @@ class Writer:
 
     def far_ack(self, right):
         rng = self.rng
-        if right:
+        if self.chance(self.mood["lose_ack"]):
+            if self.chance(0.6):
+                self.put("T %d" % self.left()[0][0])
+            else:
+                self.put_bytes(bytes([NAK]))
+        elif right:
             raw = bytes([ACK])
             if self.chance(0.1):
                 # The far end has something to send too, at once.
@@ -764,7 +800,7 @@ class Writer:
         elif self.chance(0.5):
             # Something in use that must not be released yet.
             busy = ["L O %d" % i for i in range(4)
-                    if u.own[i].state in (SENDING, AWAITED, OPEN)]
+                    if u.own[i].state in (SENDING, PUT_OUT, AWAITED, OPEN)]
             busy += ["L I %d" % i for i in range(4)
                      if u.incoming[i].state in (OPEN, REPLYING)]
             self.put(rng.choice(busy or ["L O 0"]))
@@ -1009,6 +1045,17 @@ class Writer:
         else:
             self.put("R %d 1 -" % self.unit.incoming.index(place))
 
+    def lose_an_ack(self):
+        """A primary of the host is out, its ACK is lost, and the retry's ENQ
+        will give way to what comes next."""
+        u = self.unit
+        if (u.host and u.rty > 0 and u.phase == IDLE
+                and any(p.state == FREE for p in u.own)):
+            self.put("O 7 1 1 1 -")
+            self.put_bytes(bytes([EOT]))
+            self.put("D")
+            self.put_bytes(bytes([NAK]))
+
     def long_message(self):
         """One message is brought close to 4,096 bytes without a pause; the
         steps that follow decide how it ends."""
@@ -1028,6 +1075,8 @@ class Writer:
             room = pu.AREA - len(place.data)
             size = room + self.rng.choice((0, 0, 1, 1, -1))
             size = max(1, min(244, size))
+            if self.chance(0.4):
+                self.lose_an_ack()
             content = self.continuing(place, self.rng.choice((0, 1)),
                                       self.rng.randbytes(size))
             self.sent = (self.sent + [content])[-4:]
@@ -1359,11 +1408,20 @@ class WatchedUnit(pu.Unit):
         h = pu.Header(content[:10])
         cont = self.find_continued(h) if self.is_ours(h) else None
         wait = self.find_awaited(h) if self.is_ours(h) else None
-        limit = cont and cont.timer == self.t4 or wait and wait.timer == self.t3
+        limit = (cont and cont.timer == self.t4
+                 or wait and wait.state == AWAITED and wait.timer == self.t3)
         what = ("open reply" if isinstance(cont, pu.OwnPlace)
                 else "open incoming" if cont
+                else "overtaking reply" if wait and wait.state == PUT_OUT
                 else "awaited reply" if wait else "none")
+        out = [p for p in self.own if p.state == PUT_OUT]
+        early = [p for p in self.own
+                 if p.state == SENDING and p.system == h.system]
         note = super().judge(content)
+        if out and what != "overtaking reply":
+            COUNT["judged %d with a block held that was out" % note] += 1
+        if early and note == 24:
+            COUNT["reply to a primary that was not out yet"] += 1
         COUNT["judged %d: %s" % (note, what)] += 1
         if note == 21:
             if limit:
@@ -1375,6 +1433,13 @@ class WatchedUnit(pu.Unit):
         if h.number == 0 and h.e == 0 and note == 24:
             COUNT["number 0 with E = 0 is 24"] += 1
         return note
+
+    def withdraw(self, place):
+        if place.state == PUT_OUT:
+            COUNT["withdrawn"] += 1
+            if self.sending.at:
+                COUNT["withdrawn, a later block"] += 1
+        super().withdraw(place)
 
     def place_for_primary(self, header):
         place = super().place_for_primary(header)
@@ -1442,7 +1507,7 @@ def expected():
     names += ["refusal %d: primary" % r for r in (0, 5, 7, 8)]
     names += ["refusal %d: reply" % r for r in (0, 5, 7, 9, 10, 11)]
     names += ["refusal 9: release own, " + s
-              for s in (FREE, SENDING, AWAITED, OPEN, "above 3")]
+              for s in (FREE, SENDING, PUT_OUT, AWAITED, OPEN, "above 3")]
     names += ["refusal 0: release own, " + ENDED]
     names += ["refusal 9: release incoming, " + s
               for s in (FREE, OPEN, REPLYING, "above 3")]
@@ -1465,6 +1530,11 @@ def expected():
     names += ["judged 27: " + w for w in ("open reply", "open incoming",
                                           "awaited reply", "none")]
     names += ["judged 25: none", "judged 24: none", "judged 22: none"]
+    names += ["judged %d: overtaking reply" % n for n in (21, 23, 27)]
+    names += ["withdrawn", "withdrawn, a later block",
+              "reply to a primary that was not out yet"]
+    names += ["judged %d with a block held that was out" % n
+              for n in range(21, 28)]
     names += ["held block (%s) sent behind %s" % (how, a)
               for how in ("asked", "gave way") for a in ("ACK", "NAK")]
     names += ["accepted primary: " + p for p in (IDLE, WAIT_LENGTH, BODY, SILENCE)]
@@ -1503,8 +1573,11 @@ def coverage(how_many):
     for seed in range(1, how_many + 1):
         if kind_of(seed) == "cycle" and seed != 125:
             continue             # one of these long ones is enough
+        withdrawn = COUNT["withdrawn"]
         lines, answers = script(seed, WatchedUnit)
         total += len(lines)
+        if COUNT["withdrawn"] > withdrawn:
+            COUNT["scripts with a block withdrawn"] += 1
         for text, answer in zip(lines, answers):
             first = answer.split(" ")[0]
             if first == "V":

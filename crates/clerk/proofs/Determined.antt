@@ -8,6 +8,8 @@ use Rattle.clerk.proofs.time.tick.Reads as tick-reads
 use Rattle.clerk.proofs.time.tick.Kinds as tick-kinds
 use Rattle.clerk.proofs.time.is_still.Reads as is-still-reads
 use Rattle.clerk.proofs.time.is_still.Kinds as is-still-kinds
+use Rattle.clerk.proofs.send.put_out.Reads as put-out-reads
+use Rattle.clerk.proofs.send.put_out.Kinds as put-out-kinds
 use Rattle.clerk.proofs.send.sent.Reads as sent-reads
 use Rattle.clerk.proofs.send.sent.Kinds as sent-kinds
 use Rattle.clerk.proofs.send.failed.Reads as failed-reads
@@ -34,6 +36,9 @@ tick-determined κs a = (tt, λ x y s t p q. p ∙ sym q)
 
 pub is-still-determined : Determined 0 is-still-kinds.ps is-still-kinds.r is-still-reads.Asked is-still-reads.Post (λ κs r s. r)
 is-still-determined κs a = (tt, λ x y s t p q. p ∙ sym q)
+
+pub put-out-determined : Determined 0 put-out-kinds.ps put-out-kinds.r put-out-reads.Asked put-out-reads.Post (λ κs r s. r)
+put-out-determined κs a = (tt, λ x y s t p q. p ∙ sym q)
 
 pub sent-determined : Determined 0 sent-kinds.ps sent-kinds.r sent-reads.Asked sent-reads.Post (λ κs r s. r)
 sent-determined κs a = (tt, λ x y s t p q. p ∙ sym q)

@@ -1,5 +1,6 @@
 // The transactions at work (E4 6.8, 7.3, 7.4; 01, "Messages"): requests are taken or refused, ticks counted, and the message being sent
-// ends sent or failed. What each of these comes to is said in crate `exchange`; blocks that went up are judged in crate `judging`.
+// is put out and ends sent or failed. What each of these comes to is said in crate `exchange`; blocks that went up are judged in crate
+// `judging`.
 //
 // The state is a value, and no public function has a `requires`: each answers for every input, and its `ensures` is one equation
 // with a definition of `exchange` for all it answers and every byte it is lent.
@@ -16,6 +17,7 @@ pub use request::release_own;
 pub use request::reply;
 pub use send::failed;
 pub use send::outgoing;
+pub use send::put_out;
 pub use send::sent;
 pub use time::is_still;
 pub use time::tick;

@@ -1,6 +1,6 @@
 // The message that is being sent: what it is, and how its sending ends.
 ghost use mathlib.Core.Path.{_≡_};
-ghost use Rattle.exchange.specs.Send.{endedOwn, endedReply, failedOf, outgoingOf, replyTo, sentOf};
+ghost use Rattle.exchange.specs.Send.{endedOwn, endedReply, failedOf, outgoingOf, putOutOf, replyTo, sentOf};
 use desk::got_verdict;
 use desk::incoming_place;
 use desk::no_flags;
@@ -54,6 +54,26 @@ pub fn outgoing(exchange: Exchange) -> Outgoing
             header: reply_to(incoming::primary(incoming_place(exchange, place)), function),
             length,
         },
+    }
+}
+
+// The last block of the message being sent is put out. The reply to a primary may come from now on; a reply of ours awaits nothing.
+pub fn put_out(exchange: Exchange) -> Exchange
+    ensures { λ r. ⌜ r ≡ putOutOf exchange ⌝ }
+{
+    let sending = exchange.sending;
+    match sending {
+        Sending::Nothing => exchange,
+        Sending::Primary { place, length: _ } => put_own(
+            exchange,
+            place,
+            own::put_out(own_place(exchange, place)),
+        ),
+        Sending::Reply {
+            place: _,
+            function: _,
+            length: _,
+        } => exchange,
     }
 }
 

@@ -67,6 +67,7 @@ fn is_timed(place: Own) -> bool
     match stage {
         OwnStage::Free => false,
         OwnStage::Sending => false,
+        OwnStage::PutOut => false,
         OwnStage::Awaiting { timer: _ } => true,
         OwnStage::Replying(_) => true,
         OwnStage::Done {

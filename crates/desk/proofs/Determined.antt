@@ -13,6 +13,8 @@ use Rattle.desk.proofs.state.put_incoming.Reads as put-incoming-reads
 use Rattle.desk.proofs.state.put_incoming.Kinds as put-incoming-kinds
 use Rattle.desk.proofs.state.with_sending.Reads as with-sending-reads
 use Rattle.desk.proofs.state.with_sending.Kinds as with-sending-kinds
+use Rattle.desk.proofs.state.put_replied.Reads as put-replied-reads
+use Rattle.desk.proofs.state.put_replied.Kinds as put-replied-kinds
 use Rattle.desk.proofs.state.with_saved.Reads as with-saved-reads
 use Rattle.desk.proofs.state.with_saved.Kinds as with-saved-kinds
 use Rattle.desk.proofs.state.own_place.Reads as own-place-reads
@@ -53,6 +55,9 @@ put-incoming-determined κs a = (tt, λ x y s t p q. p ∙ sym q)
 
 pub with-sending-determined : Determined 0 with-sending-kinds.ps with-sending-kinds.r with-sending-reads.Asked with-sending-reads.Post (λ κs r s. r)
 with-sending-determined κs a = (tt, λ x y s t p q. p ∙ sym q)
+
+pub put-replied-determined : Determined 0 put-replied-kinds.ps put-replied-kinds.r put-replied-reads.Asked put-replied-reads.Post (λ κs r s. r)
+put-replied-determined κs a = (tt, λ x y s t p q. p ∙ sym q)
 
 pub with-saved-determined : Determined 0 with-saved-kinds.ps with-saved-kinds.r with-saved-reads.Asked with-saved-reads.Post (λ κs r s. r)
 with-saved-determined κs a = (tt, λ x y s t p q. p ∙ sym q)

@@ -24,5 +24,6 @@ pub use state::latest_after;
 pub use state::own_place;
 pub use state::put_incoming;
 pub use state::put_own;
+pub use state::put_replied;
 pub use state::with_saved;
 pub use state::with_sending;

@@ -1,6 +1,6 @@
 // The state at its start, and with one of its parts anew.
 ghost use mathlib.Core.Path.{_≡_};
-ghost use Rattle.exchange.specs.Exchange.{freshExchange, gotVerdict, latestAfter, putIncoming, putOwn, savedNow, withSending};
+ghost use Rattle.exchange.specs.Exchange.{freshExchange, gotVerdict, latestAfter, putIncoming, putOwn, putReplied, savedNow, sentBehind, sentFrom, withSending};
 use exchange::Exchange;
 use exchange::Numbers;
 use exchange::Saved;
@@ -114,6 +114,42 @@ pub fn with_sending(exchange: Exchange, sending: Sending) -> Exchange
         numbers,
         sending,
     }
+}
+
+// Whether the message being sent is the primary of this place.
+fn sent_from(sending: Sending, place: usize) -> bool
+    ensures { λ r. ⌜ r ≡ sentFrom sending place ⌝ }
+{
+    match sending {
+        Sending::Nothing => false,
+        Sending::Primary {
+            place: from,
+            length: _,
+        } => from == place,
+        Sending::Reply {
+            place: _,
+            function: _,
+            length: _,
+        } => false,
+    }
+}
+
+// What is being sent once a block of the reply in this place has come: its primary no more, for it was received.
+fn sent_behind(sending: Sending, place: usize) -> Sending
+    ensures { λ r. ⌜ r ≡ sentBehind sending place ⌝ }
+{
+    if sent_from(sending, place) {
+        return Sending::Nothing;
+    }
+    sending
+}
+
+// An own place is put anew by a block of its reply.
+pub fn put_replied(exchange: Exchange, place: usize, after: Own) -> Exchange
+    ensures { λ r. ⌜ r ≡ putReplied exchange place after ⌝ }
+{
+    let sending = exchange.sending;
+    with_sending(put_own(exchange, place, after), sent_behind(sending, place))
 }
 
 // Rule 2: "Otherwise the header is saved, even if the block is thrown out below."

@@ -196,6 +196,7 @@ accepted-replies c x p f d room k =
 own-freed : (s : OwnStage) (o : Own) → givenBy (standingAt s) ≡ true → ownReleasedAt s o .stage ≡ own.Free
 own-freed own.Free o t = absurd (false≢true t)
 own-freed own.Sending o t = absurd (false≢true t)
+own-freed own.PutOut o t = absurd (false≢true t)
 own-freed (own.Awaiting timer) o t = absurd (false≢true t)
 own-freed (own.Replying a) o t = absurd (false≢true t)
 own-freed (own.Done v r) o t = refl

@@ -18,25 +18,28 @@ use Rattle.cut.specs.Theorems.{joined}
 use Rattle.room.specs.Room.{keptIn}
 use Rattle.room.specs.declared.Message.the-variants as message
 use Rattle.place.specs.Message.{Routed}
-use Rattle.place.specs.Own.{replyOf, ownKept, verdictOf}
+use Rattle.place.specs.Own.{keptAt, replyOf, ownKept, ownTick, verdictOf}
 use Rattle.place.specs.declared.Arriving.{Arriving}
 use Rattle.place.specs.declared.OwnStage.{OwnStage}
-use Rattle.place.specs.declared.OwnStage.the-variants.{Awaiting, Replying, Done}
+use Rattle.place.specs.declared.OwnStage.the-variants.{PutOut, Awaiting, Replying, Done}
 use Rattle.place.specs.declared.Own.{Own}
 use Rattle.place.specs.declared.Verdict.{Verdict}
 use Rattle.place.specs.declared.Verdict.the-variants.{Sent, Answered, Declined, Other, Broken, NoReply, SendFailed}
-use Rattle.exchange.specs.Exchange.{ownPlace, putOwn, savedNow}
-use Rattle.exchange.specs.Tick.{timedAt}
+use Rattle.table.specs.Number.{numberOf}
+use Rattle.exchange.specs.Exchange.{ownPlace, sentBehind}
 use Rattle.exchange.specs.Judge.{judgeOf}
 use Rattle.exchange.specs.Reading.{ownReading}
-use Rattle.exchange.specs.Rules.{Fours, LowestAt, New, OfReply, first, further, ReplyHere, bytesBefore, Comes, openFrom, Fits, ReplyGoes, kept}
+use Rattle.exchange.specs.Rules.{Fours, LowestAt, New, IsAwaited, OfReply, first, further, ReplyHere, bytesBefore, Comes, openFrom, Fits, ReplyGoes, kept}
+use Rattle.exchange.specs.Rules as rule
 use Rattle.exchange.specs.Releases as side
-use Rattle.exchange.specs.Assembly.{headerIn, dataIn, receiverOf, passes, received, ticksBefore, WithinT4, Awaits, ReplyAssembled, IsReply, Earns, AssemblyOfReply, OurReplies}
+use Rattle.exchange.specs.Assembly.{headerIn, dataIn, receiverOf, passes, received, ticksBefore, WithinT4, AwaitedFor, acked, out, expectsAt, Awaits, ReplyAssembled, IsReply, Earns, AssemblyOfReply, OurReplies}
+use Rattle.exchange.specs.declared.Numbers.{Numbers}
+use Rattle.exchange.specs.declared.Sending.{Sending}
 use Rattle.exchange.specs.declared.Exchange.{Exchange}
 use Rattle.exchange.proofs.Notes.{notes-exactly}
 use Rattle.exchange.proofs.Keeping.{bytes-before, reply-block}
 use Rattle.exchange.proofs.Blocks.{continues-at, said, one-more, fits-at, ends-at}
-use Rattle.exchange.proofs.Passing.{sending-stays, kept-on, counts, awaitedAt, repliedAt, awaited-on, replied-on, Timed, not-timed, Beside, incomings-beside}
+use Rattle.exchange.proofs.Passing.{sending-stays, kept-on, counts, awaitedAt, repliedAt, awaited-on, replied-on, Expects, not-expected, Beside, incomings-beside, putBlock}
 use Rattle.exchange.proofs.Coming.{raised, KeptFor, comes-to, complete}
 
 -- the place of a primary with these header bytes
@@ -73,16 +76,17 @@ earned b g h SendFailed i a = absurd a
 
 -- ---- a place that takes a block
 
--- T3 or T4 runs there, and its primary has the block's system bytes
-timed-taken : (o : Own) (b : Header) → OfReply o b → Timed (b .system) o
-timed-taken o b (first timer e system even starts) = (ap timedAt e, sym system)
-timed-taken o b (further a e k) = (ap timedAt e, sym (k .system))
+-- its reply is awaited, or blocks of it are kept, and its primary has the block's system bytes
+expects-taken : (o : Own) (b : Header) → OfReply o b → Expects (b .system) o
+expects-taken o b (first (rule.out e) system even starts) = (ap expectsAt e, sym system)
+expects-taken o b (first (rule.acked timer e) system even starts) = (ap expectsAt e, sym system)
+expects-taken o b (further a e k) = (ap expectsAt e, sym (k .system))
 
 -- ---- all blocks of a reply
 
-module _ (c : Terms) (pauses : ℕ → ℕ) (x : Exchange) (four : Fours x) (p timer : ℕ) (g h : Header) (d : List ℕ) (v : Verdict)
+module _ (c : Terms) (pauses : ℕ → ℕ) (x : Exchange) (four : Fours x) (p : ℕ) (g h : Header) (d : List ℕ) (v : Verdict)
     (i : InRange h) (even : h .function % 2 ≡ 0) (q : Routed c h) (to : IsReply g h) (earns : Earns g h v)
-    (short : length d ≤ messageLimit) (w : Awaits c x p g timer h d) (t3 : timer + pauses 1 ≤ c .t3 .0) (t4 : WithinT4 c pauses d) where
+    (short : length d ≤ messageLimit) (w : Awaits c x p g (pauses 1) h d) (t4 : WithinT4 c pauses d) where
   -- the primary's header bytes
   abbrev ten : List ℕ
   ten = ownPlace x p .header
@@ -101,19 +105,23 @@ module _ (c : Terms) (pauses : ℕ → ℕ) (x : Exchange) (four : Fours x) (p t
     bytes : ownKept o .length ≡ length (joined h d k)
     takes : OfReply o (headerAt h (length d) (suc k))
 
-  here : ownPlace x p ≡ awaitedAt c ten timer
-  here = λ j. record { header = ten; stage = w .stage j }
-
-  -- T3 has not run out
-  first-here : Before 0 (ownPlace (passes c x (pauses 1)) p)
+  -- while it is awaited
+  awaited : (s : OwnStage) → IsAwaited (place-at ten s) → keptAt s .length ≡ 0 → Before 0 (place-at ten s)
   unfolding headerAt joined
-  first-here =
+  awaited s a none = record {
+    header = refl;
+    bytes = none;
+    takes = first a (to .system ∙ ap (λ (a : Header). a .system) (sym (w .primary))) even (inl refl);
+  }
+
+  -- T3 has not run out, or does not run
+  first-here : (s : OwnStage) → ownPlace x p ≡ place-at ten s → AwaitedFor c (pauses 1) s → Before 0 (ownPlace (passes c x (pauses 1)) p)
+  first-here _ here (acked timer t3) =
       subst (Before 0) (sym (counts side.own c x p (awaitedAt c ten) (c .t3 .0) (awaited-on c ten) timer here (pauses 1) t3))
-      (record {
-        header = refl;
-        bytes = refl;
-        takes = first (timer + pauses 1) refl (to .system ∙ ap (λ (a : Header). a .system) (sym (w .primary))) even (inl refl);
-      })
+      (awaited (Awaiting (timer + pauses 1)) (rule.acked _ refl) refl)
+  first-here _ here out =
+      subst (Before 0) (sym (kept-on side.own c x p (λ o. o ≡ place-at ten PutOut) (λ o e. ap (ownTick c) e) here (pauses 1)))
+      (awaited PutOut (rule.out refl) refl)
 
   -- T4 has not run out
   later-here : (k : ℕ) (y : Exchange) → suc k < blockCount (length d) → ownPlace y p ≡ held k false (length (joined h d (suc k)))
@@ -135,9 +143,10 @@ module _ (c : Terms) (pauses : ℕ → ℕ) (x : Exchange) (four : Fours x) (p t
       → Fours y → New c y (headerIn h d (suc k)) → Beside side.own p (passes c x (ticksBefore pauses (suc k))) y → Before k (ownPlace y p)
       → KeptFor side.own y p (headerIn h d (suc k)) (held k t (length (joined h d (suc k)))) t
       (keptIn room (message.Reply p) (length (joined h d k)) (dataIn h d (suc k))) (judgeOf c y (headerIn h d (suc k)) (dataIn h d (suc k)) room)
-  unfolding headerAt verdictOf
+  unfolding headerAt verdictOf sentBehind
   judged k t y room less e fours new beside before = record {
     note = notes-exactly c y b src room fours 21 .1 (kept new (inl there) (fit .has-data) (omega (arith, have, fit .fits)) (inl there));
+    numbers = numbers t;
     comes = comes t (ends-at h d i short (suc k) less ∙ e);
   }
     where
@@ -159,10 +168,10 @@ module _ (c : Terms) (pauses : ℕ → ℕ) (x : Exchange) (four : Fours x) (p t
         within = w .within;
         so = rw says (before .takes);
         none-below = λ j under r.
-            kept-on side.own c x j (λ o. Timed (h .system) o → ⊥) (not-timed c (h .system))
+            kept-on side.own c x j (λ o. Expects (h .system) o → ⊥) (not-expected c (h .system))
             (λ u. w .alone j (omega (arith, w .within)) (λ m. omega arith) (u .0) (u .1)) (ticksBefore pauses (suc k))
-            (subst (Timed (h .system)) (beside .others side.own j (λ s m. omega arith))
-            (subst (λ (a : Header). Timed (a .system) (ownPlace y j)) says (timed-taken (ownPlace y j) (headerOf b) r)));
+            (subst (Expects (h .system)) (beside .others side.own j (λ s m. omega arith))
+            (subst (λ (a : Header). Expects (a .system) (ownPlace y j)) says (expects-taken (ownPlace y j) (headerOf b) r)));
       }
 
       there : ReplyHere y (headerOf b)
@@ -180,18 +189,22 @@ module _ (c : Terms) (pauses : ℕ → ℕ) (x : Exchange) (four : Fours x) (p t
       given : verdictOf (ownPlace y p) (headerOf b) ≡ v
       given = (λ m. verdictOf (record { header = before .header m; stage = ownPlace y p .stage }) (says m)) ∙ earned ten g h v (w .primary) earns
 
+      numbers : Bool → Numbers
+      numbers t = record { last = y .numbers .last; latest = cond t (numberOf (ownPlace y p)) (y .numbers .latest) }
+
       comes : (t : Bool) → headerOf b .e ≡ t
-          → Comes (judgeOf c y b src room) (putOwn (savedNow y b) p (held k t (length (joined h d (suc k))))) (raised side.own p t)
+          → Comes (judgeOf c y b src room) (putBlock side.own y b p (held k t (length (joined h d (suc k)))) (numbers t)) (raised side.own p t)
           (keptIn room (message.Reply p) (length (joined h d k)) src)
       comes true f =
-          comes-to (ap (putOwn (savedNow y b) p) (λ m. record { header = before .header m; stage = Done (given m) (replyOf (says m) (size m)) })) (goes .complete fit f)
+          comes-to (ap (λ (o : Own). putBlock side.own y b p o (numbers true)) (λ m. record { header = before .header m; stage = Done (given m) (replyOf (says m) (size m)) })) (goes .complete fit f)
       comes false f =
-          comes-to (ap (putOwn (savedNow y b) p) (λ m. record { header = before .header m; stage = Replying (openFrom (says m) (size m)) })) (goes .more fit f)
+          comes-to (ap (λ (o : Own). putBlock side.own y b p o (numbers false)) (λ m. record { header = before .header m; stage = Replying (openFrom (says m) (size m)) })) (goes .more fit f)
 
   assembled : (room : List ℕ) → length room ≡ 36864 → ReplyAssembled c pauses v x p g h d (received c pauses (receiverOf x room) h d (blockCount (length d)))
-  unfolding ownReading
+  unfolding ownReading sentBehind
   assembled room whole =
-      let r = complete side.own c pauses x four p (w .within) h d i q short (w .new) held Before first-here later-here judged room whole in
+      let r = complete side.own c pauses x four p (w .within) h d i q short (w .new) held Before (first-here (ownPlace x p .stage) refl (w .stage)) later-here judged room whole in
+      let sent = r .sending ∙ ap (λ (m : Sending). sentBehind m p) (sending-stays c x _) in
       record {
         notes = r .notes;
         flags = r .flags;
@@ -199,13 +212,14 @@ module _ (c : Terms) (pauses : ℕ → ℕ) (x : Exchange) (four : Fours x) (p t
         bytes = r .bytes;
         others = λ j ne. r .beside .others side.own j (λ e. ne);
         incomings = incomings-beside (r .beside);
-        sending = r .beside .sending ∙ sending-stays c x _;
+        sending = λ e. sent ∙ rw e;
+        withdrawn = λ e. sent ∙ rw e;
         saved = r .saved;
       }
 
 pub assembly-of-reply : AssemblyOfReply
-assembly-of-reply c pauses x room p timer g h d v four whole i even q to earns short w t3 t4 =
-    assembled c pauses x four p timer g h d v i even q to earns short w t3 t4 room whole
+assembly-of-reply c pauses x room p g h d v four whole i even q to earns short w t4 =
+    assembled c pauses x four p g h d v i even q to earns short w t4 room whole
 
 pub our-replies : OurReplies
 our-replies g = record {

@@ -21,7 +21,7 @@ use Rattle.exchange.specs.Judge.{Judging, thrown, isMisrouted, isDuplica
 use Rattle.exchange.specs.Request.{Requesting, refused, badPrimary, badFunction, dataLong, isSending, notReady, openBy, openFree, openOf, replyAccepted, replyReady, replyOf, Request, answerOf}
 use Rattle.exchange.specs.Request as request
 use Rattle.exchange.specs.History as exchange
-use Rattle.exchange.specs.History.{Call, block, tick, acknowledged, failed, called, Joined, sees, Track, next, track}
+use Rattle.exchange.specs.History.{Call, block, tick, put-out, acknowledged, failed, called, Joined, sees, Track, next, track}
 use Rattle.exchange.specs.declared.Exchange.{Exchange}
 use Rattle.exchange.specs.declared.Judged.{Judged}
 use Rattle.exchange.specs.declared.Primary.{Primary}
@@ -114,6 +114,7 @@ module _ (c : Terms) (x : Exchange) (room other : List ℕ) where
   called-alike : (k : Call) → called c x room k .exchange ≡ called c x other k .exchange
   called-alike (block h d) = ap (λ (j : Judged). j .exchange) (judge-alike h d room other c x)
   called-alike tick = refl
+  called-alike put-out = refl
   called-alike acknowledged = refl
   called-alike failed = refl
   called-alike (exchange.request r) = ap (λ (a : Requested). a .exchange) (request-alike c x r room other)
@@ -121,6 +122,7 @@ module _ (c : Terms) (x : Exchange) (room other : List ℕ) where
   sees-alike : (s : Joined) (k : Call) → sees c x room s k ≡ sees c x other s k
   sees-alike s (block h d) = rw (judge-alike h d room other c x)
   sees-alike s tick = refl
+  sees-alike s put-out = refl
   sees-alike s acknowledged = refl
   sees-alike s failed = refl
   sees-alike s (exchange.request r) = rw (request-alike c x r room other)

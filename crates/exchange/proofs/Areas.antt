@@ -30,16 +30,16 @@ use Rattle.table.proofs.Finding.{reply-lowest, message-lowest, open-alike-lowes
 use Rattle.table.specs.declared.Found.the-variants.{At}
 use Rattle.exchange.specs.Exchange.{ownPlace, incomingPlace, putOwn, putIncoming, withSending, savedNow}
 use Rattle.exchange.specs.Tick.{tickOf}
-use Rattle.exchange.specs.Send.{endedOwn, endedReply, sentBy, failedBy}
+use Rattle.exchange.specs.Send.{putOutBy, endedOwn, endedReply, sentBy, failedBy}
 use Rattle.exchange.specs.Judge.{Judging, thrown, spoiltBy, replyBlock, messageBlock, beginsAt, judgeOf}
 use Rattle.exchange.specs.Request.{sendingBy, Requesting, refusedBy, refused, primaryHeader, claimedAt, replyAccepted, Request, reply, answerOf}
-use Rattle.exchange.specs.History.{Call, block, tick, acknowledged, failed, request, Joined, anew, ofNew, joins, ifKept, joinsAsked, Track, next, track, atStart}
+use Rattle.exchange.specs.History.{Call, block, tick, put-out, acknowledged, failed, request, Joined, anew, ofNew, joins, ifKept, joinsAsked, Track, next, track, atStart}
 use Rattle.exchange.specs.Releases as side
 use Rattle.exchange.specs.Theorems.{Reached, StartsWith, hasReply, lengthSent, JoinedInAreas}
 use Rattle.exchange.proofs.Cases.{Thrown, stray, no-place, too-long, empty, Takes, by-judge, by-request}
 use Rattle.exchange.proofs.Filling.{Fills, spares-same, spares-kept, fills-first, fits-area}
-use Rattle.exchange.proofs.Holding.{OwnHolds, IncomingHolds, SendHolds, own-ticked, own-sent, own-failed, own-released, own-claimed, incoming-ticked, incoming-answered, incoming-ended, incoming-released}
-use Rattle.exchange.proofs.Joining.{Good, all-free, any, every, saved-good, only, joined, put-sending, offered-replied, offered-kept, reply-joined, message-joined}
+use Rattle.exchange.proofs.Holding.{OwnHolds, IncomingHolds, SendHolds, own-ticked, own-put-out, own-sent, own-failed, own-released, own-claimed, incoming-ticked, incoming-answered, incoming-ended, incoming-released}
+use Rattle.exchange.proofs.Joining.{Good, all-free, any, every, saved-good, only, joined, put-sending, offered-replied, offered-kept, replied-good, reply-joined, message-joined}
 use Rattle.exchange.specs.declared.Note.{Note}
 use Rattle.exchange.specs.declared.Sending.{Sending}
 use Rattle.exchange.specs.declared.Sending.the-variants as sending
@@ -107,7 +107,7 @@ module _ (c : Terms) (x : Exchange) (h d room : List ℕ) (s : Joined) (g : Good
       by-judge c x h d room After (λ e. g) (λ e u. g)
       (λ p q r.
       let w = reply-lowest (x .own) b (g .own .four) .at p .0 r in
-      rw (r, offered-replied (ownPlace x p) b (length d) (w .1)) (reply-joined y room s gy p (w .0) b d (w .1)))
+      rw (r, offered-replied (ownPlace x p) b (length d) (w .1)) (replied-good y p _ _ _ (reply-joined y room s gy p (w .0) b d (w .1))))
       (λ p q r m.
       let w = message-lowest (x .incoming) b (g .incoming .four) .at p .0 m in
       rw (r, m, offered-kept (incomingPlace x p) b (length d) (w .1)) (message-joined y room s gy p (w .0) b d (w .1)))
@@ -120,7 +120,7 @@ module _ (c : Terms) (x : Exchange) (h d room : List ℕ) (s : Joined) (g : Good
       (joined y room s gy side.incoming p d _ (spares-kept room (message.Incoming p) 0 d (g .whole)) (begun-holds room p (g .whole) (w .0) b d (incomingPlace x p) (ap spoiltBy e ∙ u)))))
       (λ n t r m. outcast n t)
 
--- ---- time, and the end of a send
+-- ---- time, a block of ours that is out, and the end of a send
 
 module _ (x : Exchange) (room : List ℕ) (s : Joined) (g : Good x room s) where
   tick-joined : (c : Terms) → Good (tickOf c x .exchange) room s
@@ -136,6 +136,11 @@ module _ (x : Exchange) (room : List ℕ) (s : Joined) (g : Good x room s) where
   -- nothing is being sent
   idle : (y : Exchange) → Good y room s → Good (withSending y sending.Nothing) room s
   idle y w = put-sending y room s w sending.Nothing (s .outgoing) (spares-same room message.Send (g .whole)) tt
+
+  put-out-joined : (q : Sending) → Good (putOutBy q x) room s
+  put-out-joined sending.Nothing = g
+  put-out-joined (sending.Primary p n) = let o = ownPlace x p in only x room s g side.own p _ (own-put-out room p (s .replies p) (o .header) (o .stage) (any (g .own) p))
+  put-out-joined (sending.Reply p f n) = g
 
   sent-joined : (q : Sending) → Good (sentBy q x .exchange) room s
   unfolding endedOwn endedReply
@@ -198,6 +203,7 @@ GoodTrack t = Good (t .exchange) (t .room) (t .seen)
 pub one-call : (c : Terms) (t : Track) (k : Call) → GoodTrack t → GoodTrack (next c t k)
 one-call c t (block h d) g = judge-joined c (t .exchange) h d (t .room) (t .seen) g
 one-call c t tick g = tick-joined (t .exchange) (t .room) (t .seen) g c
+one-call c t put-out g = put-out-joined (t .exchange) (t .room) (t .seen) g (t .exchange .sending)
 one-call c t acknowledged g = sent-joined (t .exchange) (t .room) (t .seen) g (t .exchange .sending)
 one-call c t failed g = failed-joined (t .exchange) (t .room) (t .seen) g (t .exchange .sending)
 one-call c t (request r) g = request-joined (t .exchange) (t .room) (t .seen) g c r
@@ -218,6 +224,7 @@ always c t w = subst GoodTrack (w .so) (all-calls c (atStart (w .last) (w .room)
 reply-begins : (room : List ℕ) (p : ℕ) (o : OwnStage) (bs : List ℕ) → OwnHolds room p o bs → hasReply o ≡ true → StartsWith room (message.Reply p) (keptAt o .length) bs
 reply-begins room p stage.Free bs h e = absurd (false≢true e)
 reply-begins room p stage.Sending bs h e = absurd (false≢true e)
+reply-begins room p stage.PutOut bs h e = absurd (false≢true e)
 reply-begins room p (stage.Awaiting timer) bs h e = absurd (false≢true e)
 reply-begins room p (stage.Replying a) bs h e = h .begins
 reply-begins room p (stage.Done v r) bs h e = h e .begins

@@ -27,10 +27,10 @@ use Rattle.table.specs.Incoming.{freeIncoming}
 use Rattle.table.specs.Theorems.{Alike}
 use Rattle.table.proofs.Finding.{free-incoming-lowest}
 use Rattle.exchange.specs.Flags.{incomingFlags}
-use Rattle.exchange.specs.Exchange.{ownPlace, incomingPlace, putIncoming, savedNow}
+use Rattle.exchange.specs.Exchange.{ownPlace, incomingPlace}
 use Rattle.exchange.specs.Judge.{judgeOf}
 use Rattle.exchange.specs.Reading.{wanted, incomingReading}
-use Rattle.exchange.specs.Rules.{Fours, LowestAt, New, OfMessage, goes-on, ReplyHere, MessageHere, FreeAt, openFrom, begunWith, Comes, bytesBefore, NewPrimary, Fits, MessageGoes, kept}
+use Rattle.exchange.specs.Rules.{Fours, LowestAt, New, OfMessage, goes-on, ReplyHere, MessageHere, FreeAt, bytesBefore, Comes, incomingBehind, openFrom, begunWith, NewPrimary, Fits, MessageGoes, kept}
 use Rattle.exchange.specs.Releases as side
 use Rattle.exchange.specs.Assembly.{headerIn, dataIn, receiverOf, passes, received, ticksBefore, WithinT4, ReadyFor, Assembled, AssemblyOfCut}
 use Rattle.exchange.specs.declared.Exchange.{Exchange}
@@ -151,9 +151,10 @@ module _ (c : Terms) (pauses : ℕ → ℕ) (x : Exchange) (four : Fours x) (eve
         subst (KeptFor side.incoming y p b (held 0 t (length (joined h d 1))) t (keptIn room (message.Incoming p) 0 src)) (sym judges)
         (record {
           note = refl;
+          numbers = y .numbers;
           comes = record {
             state =
-                ap (putIncoming (savedNow y b) p)
+                ap (incomingBehind y b p)
                 (ap (λ (a : Header). begunWith a (length src)) says
                 ∙ (λ m. record { header = headerAt h (length d) 1; stage = cond (e m) (Complete (size m)) (Open (opened 0 (size m))) }));
             flags = ap (λ (u : Bool). incomingFlags p u false) ends ∙ flagged p t;
@@ -172,6 +173,7 @@ module _ (c : Terms) (pauses : ℕ → ℕ) (x : Exchange) (four : Fours x) (eve
       note =
           notes-exactly c y b src room fours 21 .1
           (kept new (inr (inl there)) (fit .has-data) (omega (arith, have, fit .fits)) (inr (inl there)));
+      numbers = y .numbers;
       comes = comes t (ends-at h d i short (suc (suc k)) less ∙ e);
     }
       where
@@ -214,12 +216,12 @@ module _ (c : Terms) (pauses : ℕ → ℕ) (x : Exchange) (four : Fours x) (eve
         size = sym (one-more h d (suc k))
 
         comes : (t : Bool) → headerOf b .e ≡ t
-            → Comes (judgeOf c y b src room) (putIncoming (savedNow y b) p (held (suc k) t (length (joined h d (suc (suc k)))))) (raised side.incoming p t)
+            → Comes (judgeOf c y b src room) (incomingBehind y b p (held (suc k) t (length (joined h d (suc (suc k)))))) (raised side.incoming p t)
             (keptIn room (message.Incoming p) (length (joined h d (suc k))) src)
         comes true f =
-            comes-to (ap (putIncoming (savedNow y b) p) (λ m. record { header = before .1 m .header; stage = Complete (size m) })) (goes .complete fit f)
+            comes-to (ap (incomingBehind y b p) (λ m. record { header = before .1 m .header; stage = Complete (size m) })) (goes .complete fit f)
         comes false f =
-            comes-to (ap (putIncoming (savedNow y b) p) (λ m. record { header = before .1 m .header; stage = Open (openFrom (says m) (size m)) })) (goes .more fit f)
+            comes-to (ap (incomingBehind y b p) (λ m. record { header = before .1 m .header; stage = Open (openFrom (says m) (size m)) })) (goes .more fit f)
 
     judged : (k : ℕ) (t : Bool) (y : Exchange) (room : List ℕ) → k < blockCount (length d) → eqb (suc k) (blockCount (length d)) ≡ t
         → Fours y → New c y (headerIn h d (suc k)) → Beside side.incoming p (passes c x (ticksBefore pauses (suc k))) y → Before k (incomingPlace y p)
@@ -254,7 +256,7 @@ module _ (c : Terms) (pauses : ℕ → ℕ) (x : Exchange) (four : Fours x) (eve
           bytes = w .bytes;
           others = λ j ne. w .beside .others side.incoming j (λ e. ne);
           owns = owns-beside (w .beside);
-          sending = w .beside .sending ∙ sending-stays c x _;
+          sending = w .sending ∙ sending-stays c x _;
           saved = w .saved;
         }
 

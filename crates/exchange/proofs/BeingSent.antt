@@ -3,19 +3,20 @@ use Prim.Native.Nat.{ℕ}
 use mathlib.Core.Path.{_≡_, refl}
 use mathlib.Core.Bool.{true, false, false≢true, true≢false}
 use mathlib.Core.List.{List}
+use mathlib.Core.Logic.{_⊎_, inl, inr}
 use Rattle.settings.specs.declared.terms.Terms.{Terms}
-use Rattle.exchange.specs.Exchange.{putOwn, putIncoming, withSending}
+use Rattle.exchange.specs.Exchange.{putOwn, putIncoming, withSending, putReplied, savedNow}
 use Rattle.exchange.specs.Tick.{tickOf}
-use Rattle.exchange.specs.Send.{endedOwn, endedReply, sentBy, failedBy}
+use Rattle.exchange.specs.Send.{putOutBy, endedOwn, endedReply, sentBy, failedBy}
+use Rattle.exchange.specs.Judge.{thrown, replyBlock, messageBlock, beginsAt, judgeOf}
 use Rattle.exchange.specs.Request.{refusedBy, refused, claimedAt, replyAccepted, Request, lends, answerOf}
-use Rattle.exchange.specs.BeingSent.{sendingAfter, Starts, RequestSends, SendingEnds}
+use Rattle.exchange.specs.BeingSent.{sendingAfter, Starts, RequestSends, Withdrawn, SendingEnds}
 use Rattle.exchange.specs.declared.Sending.{Sending}
 use Rattle.exchange.specs.declared.Sending.the-variants as sending
 use Rattle.exchange.specs.declared.Exchange.{Exchange}
 use Rattle.exchange.specs.declared.Asked.the-variants.{Taken}
-use Rattle.exchange.proofs.Cases.{by-request}
+use Rattle.exchange.proofs.Cases.{by-behind, by-judge, by-request}
 use Rattle.exchange.proofs.Accepting.{not-taken}
-use Rattle.exchange.proofs.Leaving.{judge-leaves}
 
 -- ---- a request
 
@@ -46,7 +47,26 @@ request-sends c x r room = record {
   spares = spares c x room r;
 }
 
--- ---- the end of a send
+-- ---- a block
+
+judged : (c : Terms) (x : Exchange) (h d room : List ℕ)
+    → (judgeOf c x h d room .answer .exchange .sending ≡ x .sending) ⊎ Withdrawn (x .sending) (judgeOf c x h d room .answer .exchange .sending)
+unfolding thrown replyBlock messageBlock beginsAt putReplied putIncoming withSending savedNow
+judged c x h d room =
+    by-judge c x h d room (λ j. (j .answer .exchange .sending ≡ x .sending) ⊎ Withdrawn (x .sending) (j .answer .exchange .sending))
+    (λ q. inl refl) (λ q u. inl refl)
+    (λ p q r.
+    by-behind (λ z. (z ≡ x .sending) ⊎ Withdrawn (x .sending) z) (x .sending) p
+    (λ e. inr (record { place = p; was = e; now = refl })) (λ e. inl refl))
+    (λ p q r m. inl refl) (λ p gone f q r m o e s t. inl refl) (λ n t r m. inl refl)
+
+-- ---- the last block is out, and the end of a send
+
+put-out-same : (z : Sending) (x : Exchange) → putOutBy z x .sending ≡ x .sending
+unfolding putOwn
+put-out-same sending.Nothing x = refl
+put-out-same (sending.Primary p n) x = refl
+put-out-same (sending.Reply p f n) x = refl
 
 sent-none : (z : Sending) (x : Exchange) → x .sending ≡ z → sentBy z x .exchange .sending ≡ sending.Nothing
 unfolding endedOwn endedReply withSending
@@ -63,8 +83,9 @@ failed-none (sending.Reply p f n) x e = refl
 pub sending-ends : SendingEnds
 unfolding tickOf
 sending-ends c x = record {
-  judged = λ h d room. judge-leaves c x h d room .sending;
+  judged = judged c x;
   ticked = refl;
+  put-out = put-out-same (x .sending) x;
   acknowledged = sent-none (x .sending) x refl;
   failed = failed-none (x .sending) x refl;
 }

@@ -17,17 +17,20 @@ use Rattle.table.specs.Own.{freeOwn, replyFor}
 use Rattle.table.specs.Incoming.{freeIncoming, messageFor, openAlike}
 use Rattle.table.specs.declared.Found.{Found}
 use Rattle.table.specs.declared.Found.the-variants.{At, Nowhere}
-use Rattle.exchange.specs.Exchange.{ownPlace, incomingPlace, putOwn, putIncoming, savedNow}
+use Rattle.exchange.specs.Exchange.{ownPlace, incomingPlace, putOwn, putIncoming, sentFrom, sentBehind, savedNow}
 use Rattle.exchange.specs.Judge.{Judging, thrown, isMisrouted, isDuplicate, lastBy, spoiltBy, replyBlock, messageBlock, beginsAt, inFree, inPlace, takesPlace, primaryBy, primaryBlock, orPrimary, ofMessage, noReplyBlock, ofReply, newBlock, judgeOf}
 use Rattle.exchange.specs.Request.{Requesting, requesting, badPrimary, badFunction, dataLong, isSending, notReady, refused, openBy, openFree, openOf, replyAccepted, replyReady, replyOf, releaseOwn, releaseIncoming, Request, answerOf}
 use Rattle.exchange.specs.Request as request
 use Rattle.exchange.specs.declared.Note.{Note}
 use Rattle.exchange.specs.declared.Note.the-variants.{Misrouted, Duplicate, Stray, NoPlace, TooLong, Empty}
+use Rattle.exchange.specs.declared.Sending.{Sending}
+use Rattle.exchange.specs.declared.Sending.the-variants.{Nothing}
 use Rattle.exchange.specs.declared.Exchange.{Exchange}
 use Rattle.exchange.specs.declared.Refusal.{Refusal}
 use Rattle.exchange.specs.declared.Asked.the-variants.{Taken}
 use Rattle.exchange.specs.declared.Primary.{Primary}
 use Rattle.exchange.specs.declared.Requested.{Requested}
+use Rattle.exchange.proofs.Judging.{Passed}
 
 -- what was found
 pub by-found : (f : Found) (P : Found → Type 0) → ((p : ℕ) → f ≡ At p → P (At p)) → (f ≡ Nowhere → P Nowhere) → P f
@@ -45,6 +48,11 @@ pub data Thrown : Note → Type 0 where
 abbrev pub Takes : Exchange → Header → ℕ → Bool → Type 0
 Takes x b p true = openAlike (x .incoming) b ≡ At p
 Takes x b p false = (openAlike (x .incoming) b ≡ Nowhere) × (freeIncoming (x .incoming) ≡ At p)
+
+-- what is being sent once a block of the reply in own place p has come
+pub by-behind : (P : Sending → Type 0) (z : Sending) (p : ℕ) → (sentFrom z p ≡ true → P Nothing) → (sentFrom z p ≡ false → P z) → P (sentBehind z p)
+unfolding sentBehind
+by-behind P z p gone still = chosen P (sentFrom z p) Nothing z gone still
 
 -- ---- a block that passed 1 and 2, with header b and data d
 
@@ -102,17 +110,17 @@ module _ (x : Exchange) (b : Header) (d room : List ℕ) (J : Judging → Type 0
 
 module _ (c : Terms) (x : Exchange) (h d room : List ℕ) (J : Judging → Type 0) where
   abbrev pub OfReply : Type 0
-  OfReply = (p : ℕ) → isMisrouted c (headerOf h) ≡ false → replyFor (x .own) (headerOf h) ≡ At p → J (replyBlock (savedNow x h) p (headerOf h) d room)
+  OfReply = (p : ℕ) → Passed c x h → replyFor (x .own) (headerOf h) ≡ At p → J (replyBlock (savedNow x h) p (headerOf h) d room)
 
   abbrev pub OfMessage : Type 0
   OfMessage =
-      (p : ℕ) → isMisrouted c (headerOf h) ≡ false → replyFor (x .own) (headerOf h) ≡ Nowhere → messageFor (x .incoming) (headerOf h) ≡ At p
+      (p : ℕ) → Passed c x h → replyFor (x .own) (headerOf h) ≡ Nowhere → messageFor (x .incoming) (headerOf h) ≡ At p
       → J (messageBlock (savedNow x h) p (headerOf h) d room)
 
   -- the fate is that of a block that is kept
   abbrev pub OfPrimary : Type 0
   OfPrimary =
-      (p : ℕ) (gone : Bool) (f : Fate) → isMisrouted c (headerOf h) ≡ false → replyFor (x .own) (headerOf h) ≡ Nowhere
+      (p : ℕ) (gone : Bool) (f : Fate) → Passed c x h → replyFor (x .own) (headerOf h) ≡ Nowhere
       → messageFor (x .incoming) (headerOf h) ≡ Nowhere → beginsPrimary (headerOf h) ≡ true → fateOf (headerOf h) 0 (length d) ≡ f
       → spoiltBy f ≡ false → Takes x (headerOf h) p gone → J (beginsAt (savedNow x h) p (headerOf h) gone (lastBy f) d room)
 
@@ -127,7 +135,7 @@ module _ (c : Terms) (x : Exchange) (h d room : List ℕ) (J : Judging → Type 
   takes-same b p true t = t
   takes-same b p false t = t
 
-  new : OfReply → OfMessage → OfPrimary → Outcast → isMisrouted c (headerOf h) ≡ false → J (newBlock (savedNow x h) (headerOf h) d room)
+  new : OfReply → OfMessage → OfPrimary → Outcast → Passed c x h → J (newBlock (savedNow x h) (headerOf h) d room)
   unfolding savedNow
   new reply message primary outcast q =
       by-new (savedNow x h) (headerOf h) d room J (λ p r. reply p q r) (λ p r m. message p q r m)
@@ -140,7 +148,7 @@ module _ (c : Terms) (x : Exchange) (h d room : List ℕ) (J : Judging → Type 
   unfolding judgeOf
   by-judge misrouted duplicate reply message primary outcast =
       chosen J (isMisrouted c (headerOf h)) _ _ misrouted
-      (λ q. chosen J (isDuplicate c x h) _ _ (λ u. duplicate q u) (λ u. new reply message primary outcast q))
+      (λ q. chosen J (isDuplicate c x h) _ _ (λ u. duplicate q u) (λ u. new reply message primary outcast (q, u)))
 
 -- ---- the requests
 

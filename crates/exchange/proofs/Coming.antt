@@ -20,7 +20,6 @@ use Rattle.cut.proofs.Cutting.{cut-joined}
 use Rattle.room.specs.Room.{placeOf, keptIn, front}
 use Rattle.place.specs.Message.{Routed}
 use Rattle.exchange.specs.Flags.{noFlags, verdictFlag, incomingFlags}
-use Rattle.exchange.specs.Exchange.{savedNow}
 use Rattle.exchange.specs.Judge.{Judging, judgeOf}
 use Rattle.exchange.specs.Rules.{Fours, Duplicate, New, noted, Comes}
 use Rattle.exchange.specs.Releases.{Side}
@@ -28,14 +27,14 @@ use Rattle.exchange.specs.Releases as side
 use Rattle.exchange.specs.Assembly.{headerIn, dataIn, Receiver, receiverOf, passes, rests, receives, received, ticksBefore, ticksAlone}
 use Rattle.exchange.specs.declared.Flags.{Flags}
 use Rattle.exchange.specs.declared.Saved.{Saved}
+use Rattle.exchange.specs.declared.Numbers.{Numbers}
 use Rattle.exchange.specs.declared.Exchange.{Exchange}
 use Rattle.exchange.proofs.Repeated.{more}
 use Rattle.exchange.proofs.Sides.{Place, place}
 use Rattle.exchange.proofs.Holding.{area}
-use Rattle.exchange.proofs.Joining.{putIn}
 use Rattle.exchange.proofs.Blocks.{routed-at, differ}
 use Rattle.exchange.proofs.Growing.{filling, kept-front}
-use Rattle.exchange.proofs.Passing.{saved-stays, fours-stay, passes-more, Beside, itself, beside-ticks, put-saved, put-fours, put-there, beside-put}
+use Rattle.exchange.proofs.Passing.{saved-stays, fours-stay, passes-more, sentPast, Beside, itself, beside-ticks, putBlock, put-fours, put-there, beside-put}
 
 -- the ticks before the first block
 pub ticks-first : (pauses : ℕ → ℕ) → ticksBefore pauses 1 ≡ pauses 1
@@ -50,10 +49,12 @@ raised z p false = noFlags
 raised side.own p true = verdictFlag p true
 raised side.incoming p true = incomingFlags p true false
 
--- It is kept for this place, which is o then; b are its header bytes, and t says whether it is the last.
+-- It is kept for this place, which is o then; b are its header bytes, t says whether it is the last, and `numbers` are the transaction
+-- numbers then, whichever they are.
 pub record KeptFor (z : Side) (y : Exchange) (p : ℕ) (b : List ℕ) (o : Place z) (t : Bool) (left : List ℕ) (j : Judging) : Type 0 where
   pub note : noted j ≡ 21
-  pub comes : Comes j (putIn z (savedNow y b) p o) (raised z p t) left
+  pub numbers : Numbers
+  pub comes : Comes j (putBlock z y b p o numbers) (raised z p t) left
 
 -- the state is the same, in other words
 pub comes-to : {j : Judging} {x y : Exchange} {f : Flags} {left : List ℕ} → x ≡ y → Comes j x f left → Comes j y f left
@@ -63,6 +64,7 @@ comes-to e w = record { state = w .state ∙ e; flags = w .flags; bytes = w .byt
 record Came (z : Side) (x : Exchange) (p : ℕ) (b : List ℕ) (o : Place z) (k : ℕ) (t : Bool) (left : List ℕ) (r : Receiver) : Type 0 where
   here : place z (r .exchange) p ≡ o
   beside : Beside z p x (r .exchange)
+  sending : r .exchange .sending ≡ sentPast z p (x .sending)
   fours : Fours (r .exchange)
   saved : r .exchange .saved ≡ record { any = true; header = b }
   bytes : r .room ≡ left
@@ -75,6 +77,7 @@ record Came (z : Side) (x : Exchange) (p : ℕ) (b : List ℕ) (o : Place z) (k 
 pub record Complete (z : Side) (x : Exchange) (p : ℕ) (b d : List ℕ) (o : Place z) (r : Receiver) : Type 0 where
   pub here : place z (r .exchange) p ≡ o
   pub beside : Beside z p x (r .exchange)
+  pub sending : r .exchange .sending ≡ sentPast z p (x .sending)
   pub saved : r .exchange .saved ≡ record { any = true; header = b }
   pub bytes : front (r .room) (area z p) (length d) ≡ d
   pub notes : r .notes ≡ replicate (blockCount (length d)) 21
@@ -117,10 +120,11 @@ module _ (z : Side) (c : Terms) (pauses : ℕ → ℕ) (x : Exchange) (four : Fo
         let w = judged k t (r .exchange) (r .room) less e fours fresh beside before in
         let state = w .comes .state in
         record {
-          here = ap (λ (y : Exchange). place z y p) state ∙ put-there p (r .exchange) b z o fours within;
-          beside = subst (Beside z p _) (sym state) (beside-put p (r .exchange) b z o _ beside);
-          fours = subst Fours (sym state) (put-fours p (r .exchange) b z o fours);
-          saved = ap (λ (y : Exchange). y .saved) state ∙ put-saved p (r .exchange) b z o;
+          here = ap (λ (y : Exchange). place z y p) state ∙ put-there p (r .exchange) b (w .numbers) z o fours within;
+          beside = subst (Beside z p _) (sym state) (beside-put p (r .exchange) b (w .numbers) z o _ beside);
+          sending = ap (λ (y : Exchange). y .sending) state ∙ beside .sending;
+          fours = subst Fours (sym state) (put-fours p (r .exchange) b (w .numbers) z o fours);
+          saved = ap (λ (y : Exchange). y .saved) state;
           bytes = w .comes .bytes ∙ ap (λ (l : List ℕ). keptIn l (area z p) (length (joined h d k)) (dataIn h d (suc k))) bytes;
           notes = (λ j. notes j ++ (w .note j ∷ [])) ∙ more 21 k;
           flags = λ j. flags j ++ (w .comes .flags j ∷ []);
@@ -173,6 +177,7 @@ module _ (z : Side) (c : Terms) (pauses : ℕ → ℕ) (x : Exchange) (four : Fo
         (record {
           here = w .here ∙ ap (λ (l : List ℕ). held k true (length l)) all;
           beside = w .beside;
+          sending = w .sending;
           saved = w .saved;
           bytes = rw (w .bytes) (rw all at (kept-front room whole (area z p) (area-place z p within) h d i short (suc k) (omega arith)));
           notes = w .notes ∙ ap (λ (m : ℕ). replicate m 21) e;

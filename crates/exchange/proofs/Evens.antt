@@ -10,13 +10,13 @@ use Rattle.settings.specs.declared.timer.Timer.{Timer}
 use Rattle.settings.specs.declared.timer.Timer.the-variants.{RunsOut, Runs}
 use Rattle.place.specs.Arriving.{waitedBy, arrivingTick}
 use Rattle.place.specs.Fate.{fateOf}
-use Rattle.place.specs.Own.{primaryOf, ended, acknowledged, awaitedBy, awaitTick, replyingBy, replyTick, ownKept, ownTakes, repliedBy, replied, ownOffered}
-use Rattle.place.specs.OwnHistory.{Event, claim, sent, failed, tick, release, block, step, Track, track, atStart}
+use Rattle.place.specs.Own.{primaryOf, ended, firstOut, acknowledged, awaitedBy, awaitTick, replyingBy, replyTick, ownKept, ownTakes, repliedBy, replied, ownOffered}
+use Rattle.place.specs.OwnHistory.{Event, claim, put-out, sent, failed, tick, release, block, step, Track, track, atStart}
 use Rattle.place.specs.declared.Arriving.{Arriving}
 use Rattle.place.specs.declared.Fate.{Fate}
 use Rattle.place.specs.declared.Fate.the-variants.{Empty, TooLong, Last, More}
 use Rattle.place.specs.declared.OwnStage.{OwnStage}
-use Rattle.place.specs.declared.OwnStage.the-variants.{Free, Sending, Awaiting, Replying, Done}
+use Rattle.place.specs.declared.OwnStage.the-variants.{Free, Sending, PutOut, Awaiting, Replying, Done}
 use Rattle.place.specs.declared.Own.{Own}
 use Rattle.exchange.specs.Exchange.{ownPlace}
 use Rattle.exchange.specs.Rules.{OfReply, first, further}
@@ -28,6 +28,7 @@ use Rattle.exchange.proofs.Inside.{places-inside}
 abbrev EvenAt : OwnStage → Type 0
 EvenAt Free = Unit {0}
 EvenAt Sending = Unit {0}
+EvenAt PutOut = Unit {0}
 EvenAt (Awaiting timer) = Unit {0}
 EvenAt (Replying a) = a .kind .function % 2 ≡ 0
 EvenAt (Done v r) = Unit {0}
@@ -37,7 +38,7 @@ Even o = EvenAt (o .stage)
 
 -- a block that is taken has an even function
 pub even-taken : (o : Own) (b : Header) → Even o → OfReply o b → b .function % 2 ≡ 0
-even-taken o b w (first timer e system even starts) = even
+even-taken o b w (first a system even starts) = even
 even-taken o b w (further a e k) = ap (λ (f : ℕ). f % 2) (k .function) ∙ subst EvenAt e w
 
 -- ---- one event
@@ -64,32 +65,52 @@ unfolding ended
 replies-on o a RunsOut e = tt
 replies-on o a (Runs n) e = e
 
+-- its last block is out, or was acknowledged
+goes-out : (h : List ℕ) → Even (firstOut (at h Sending))
+unfolding firstOut
+goes-out h = chosen Even (primaryOf (at h Sending) .w) _ _ (λ t. tt) (λ t. tt)
+
+acks : (o : Own) → Even (acknowledged o)
+unfolding acknowledged ended
+acks o = chosen Even (primaryOf o .w) _ _ (λ t. tt) (λ t. tt)
+
 pub even-step : (c : Terms) (h : List ℕ) (s : OwnStage) (e : Event c) → EvenAt s → Even (step (at h s) e)
-unfolding ended acknowledged awaitTick replyTick arrivingTick ownOffered replied
+unfolding ended awaitTick replyTick arrivingTick ownOffered replied
 even-step c h s (block b n q) w =
     chosen Even (ownTakes (at h s) b) _ _
     (λ t. replies (at h s) b (fateOf b (ownKept (at h s) .length) n) (even-taken (at h s) b w (reply-says (at h s) b .0 t))) (λ t. w)
 even-step c h Free (claim b) w = tt
+even-step c h Free put-out w = w
 even-step c h Free sent w = w
 even-step c h Free failed w = w
 even-step c h Free tick w = w
 even-step c h Free release w = w
 even-step c h Sending (claim b) w = w
-even-step c h Sending sent w = chosen Even (primaryOf (at h Sending) .w) _ _ (λ t. tt) (λ t. tt)
+even-step c h Sending put-out w = goes-out h
+even-step c h Sending sent w = acks (at h Sending)
 even-step c h Sending failed w = tt
 even-step c h Sending tick w = w
 even-step c h Sending release w = w
+even-step c h PutOut (claim b) w = w
+even-step c h PutOut put-out w = w
+even-step c h PutOut sent w = acks (at h PutOut)
+even-step c h PutOut failed w = tt
+even-step c h PutOut tick w = w
+even-step c h PutOut release w = w
 even-step c h (Awaiting n) (claim b) w = w
+even-step c h (Awaiting n) put-out w = w
 even-step c h (Awaiting n) sent w = w
 even-step c h (Awaiting n) failed w = w
 even-step c h (Awaiting n) tick w = awaits-on (at h (Awaiting n)) (ticked (c .t3) n)
 even-step c h (Awaiting n) release w = w
 even-step c h (Replying a) (claim b) w = w
+even-step c h (Replying a) put-out w = w
 even-step c h (Replying a) sent w = w
 even-step c h (Replying a) failed w = w
 even-step c h (Replying a) tick w = replies-on (at h (Replying a)) a (ticked (c .t4) (a .timer)) w
 even-step c h (Replying a) release w = w
 even-step c h (Done v r) (claim b) w = w
+even-step c h (Done v r) put-out w = w
 even-step c h (Done v r) sent w = w
 even-step c h (Done v r) failed w = w
 even-step c h (Done v r) tick w = w

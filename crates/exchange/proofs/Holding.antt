@@ -13,7 +13,7 @@ use Rattle.place.specs.OwnTheorems.{onReply}
 use Rattle.place.proofs.Arrivals.{by-waited}
 use Rattle.room.specs.declared.Message.{Message}
 use Rattle.room.specs.declared.Message.the-variants as message
-use Rattle.place.specs.Own.{ended, primaryOf, keptAt, standingAt, freeBy, awaitedBy, replyingBy, ownTick, awaitTick, replyTick, acknowledged, ownSent, ownFailed, ownClaimed, ownTakes, ownReleased}
+use Rattle.place.specs.Own.{ended, primaryOf, keptAt, standingAt, freeBy, awaitedBy, replyingBy, ownTick, awaitTick, replyTick, firstOut, ownPutOut, acknowledged, ownSent, ownFailed, ownClaimed, ownTakes, ownReleased}
 use Rattle.place.specs.Incoming.{lengthAt, incomingTick, openTick, openBy, endedAt, incomingAnswered, incomingReleased, incomingTakes}
 use Rattle.place.specs.declared.OwnStage.{OwnStage}
 use Rattle.place.specs.declared.OwnStage.the-variants as stage
@@ -35,6 +35,7 @@ use Rattle.exchange.specs.declared.Sending.the-variants as sending
 abbrev pub OwnHolds : List ℕ → ℕ → OwnStage → List ℕ → Type 0
 OwnHolds room p stage.Free bs = Unit {0}
 OwnHolds room p stage.Sending bs = bs ≡ []
+OwnHolds room p stage.PutOut bs = bs ≡ []
 OwnHolds room p (stage.Awaiting timer) bs = bs ≡ []
 OwnHolds room p (stage.Replying a) bs = Fills room (message.Reply p) (a .length) bs
 OwnHolds room p (stage.Done v r) bs = onReply v ≡ true → Fills room (message.Reply p) (r .length) bs
@@ -68,6 +69,7 @@ module _ (room after : List ℕ) (m : Message) (s : Spares room after m) where
   own-spared : (p : ℕ) → p < 4 → (m ≡ message.Reply p → ⊥) → (o : OwnStage) (bs : List ℕ) → OwnHolds room p o bs → OwnHolds after p o bs
   own-spared p k ne stage.Free bs h = tt
   own-spared p k ne stage.Sending bs h = h
+  own-spared p k ne stage.PutOut bs h = h
   own-spared p k ne (stage.Awaiting timer) bs h = h
   own-spared p k ne (stage.Replying a) bs h = s .others (message.Reply p) (a .length) bs ne k h
   own-spared p k ne (stage.Done v r) bs h = λ e. s .others (message.Reply p) (r .length) bs ne k (h e)
@@ -99,17 +101,30 @@ module _ (room : List ℕ) (p : ℕ) (bs : List ℕ) where
   unfolding awaitTick replyTick ended
   own-ticked c h stage.Free w = tt
   own-ticked c h stage.Sending w = w
+  own-ticked c h stage.PutOut w = w
   own-ticked c h (stage.Awaiting timer) w =
       by-timer (c .t3) timer (λ t. OwnHolds room p (awaitedBy (mk h (stage.Awaiting timer)) t .stage) bs) (λ _. λ e. absurd (false≢true e)) (λ _. w)
   own-ticked c h (stage.Replying a) w =
       by-waited c a (λ t. OwnHolds room p (replyingBy (mk h (stage.Replying a)) t .stage) bs) (λ e. absurd (false≢true e)) (λ _. w)
   own-ticked c h (stage.Done v r) w = w
 
-  pub own-sent : (h : List ℕ) (s : OwnStage) → OwnHolds room p s bs → OwnHolds room p (ownSent (mk h s) .stage) bs
+  pub own-put-out : (h : List ℕ) (s : OwnStage) → OwnHolds room p s bs → OwnHolds room p (ownPutOut (mk h s) .stage) bs
+  unfolding firstOut
+  own-put-out h stage.Free w = tt
+  own-put-out h stage.Sending w = chosen (λ (o : Own). OwnHolds room p (o .stage) bs) (primaryOf (mk h stage.Sending) .w) _ _ (λ _. w) (λ _. w)
+  own-put-out h stage.PutOut w = w
+  own-put-out h (stage.Awaiting timer) w = w
+  own-put-out h (stage.Replying a) w = w
+  own-put-out h (stage.Done v r) w = w
+
+  own-acknowledged : (h : List ℕ) (s : OwnStage) → bs ≡ [] → OwnHolds room p (acknowledged (mk h s) .stage) bs
   unfolding acknowledged ended
+  own-acknowledged h s w = chosen (λ (o : Own). OwnHolds room p (o .stage) bs) (primaryOf (mk h s) .w) _ _ (λ _. w) (λ _. λ e. absurd (false≢true e))
+
+  pub own-sent : (h : List ℕ) (s : OwnStage) → OwnHolds room p s bs → OwnHolds room p (ownSent (mk h s) .stage) bs
   own-sent h stage.Free w = tt
-  own-sent h stage.Sending w =
-      chosen (λ (o : Own). OwnHolds room p (o .stage) bs) (primaryOf (mk h stage.Sending) .w) _ _ (λ _. w) (λ _. λ e. absurd (false≢true e))
+  own-sent h stage.Sending w = own-acknowledged h stage.Sending w
+  own-sent h stage.PutOut w = own-acknowledged h stage.PutOut w
   own-sent h (stage.Awaiting timer) w = w
   own-sent h (stage.Replying a) w = w
   own-sent h (stage.Done v r) w = w
@@ -118,6 +133,7 @@ module _ (room : List ℕ) (p : ℕ) (bs : List ℕ) where
   unfolding ended
   own-failed h stage.Free w = tt
   own-failed h stage.Sending w = λ e. absurd (false≢true e)
+  own-failed h stage.PutOut w = λ e. absurd (false≢true e)
   own-failed h (stage.Awaiting timer) w = w
   own-failed h (stage.Replying a) w = w
   own-failed h (stage.Done v r) w = w
@@ -125,16 +141,21 @@ module _ (room : List ℕ) (p : ℕ) (bs : List ℕ) where
   pub own-released : (h : List ℕ) (s : OwnStage) → OwnHolds room p s bs → OwnHolds room p (ownReleased (mk h s) .stage) bs
   own-released h stage.Free w = tt
   own-released h stage.Sending w = w
+  own-released h stage.PutOut w = w
   own-released h (stage.Awaiting timer) w = w
   own-released h (stage.Replying a) w = w
   own-released h (stage.Done v r) w = tt
 
   -- what a place that takes a block has of its reply
+  none-has : length room ≡ 36864 → p < 4 → bs ≡ [] → Fills room (message.Reply p) 0 bs
+  none-has w k g = subst (λ l. Fills room (message.Reply p) 0 l) (sym g) (fills-none room (message.Reply p) w k)
+
   pub own-has : (w : length room ≡ 36864) → p < 4 → (b : Header) (h : List ℕ) (s : OwnStage) → ownTakes (mk h s) b ≡ true → OwnHolds room p s bs
       → Fills room (message.Reply p) (keptAt s .length) bs
   own-has w k b h stage.Free t g = absurd (false≢true t)
   own-has w k b h stage.Sending t g = absurd (false≢true t)
-  own-has w k b h (stage.Awaiting timer) t g = subst (λ l. Fills room (message.Reply p) 0 l) (sym g) (fills-none room (message.Reply p) w k)
+  own-has w k b h stage.PutOut t g = none-has w k g
+  own-has w k b h (stage.Awaiting timer) t g = none-has w k g
   own-has w k b h (stage.Replying a) t g = g
   own-has w k b h (stage.Done v r) t g = absurd (false≢true t)
 
@@ -142,6 +163,7 @@ module _ (room : List ℕ) (p : ℕ) (bs : List ℕ) where
 pub own-claimed : (room : List ℕ) (p : ℕ) (h : List ℕ) (s : OwnStage) (new : List ℕ) → freeBy (standingAt s) ≡ true → OwnHolds room p (ownClaimed (mk h s) new .stage) []
 own-claimed room p h stage.Free new e = refl
 own-claimed room p h stage.Sending new e = absurd (false≢true e)
+own-claimed room p h stage.PutOut new e = absurd (false≢true e)
 own-claimed room p h (stage.Awaiting timer) new e = absurd (false≢true e)
 own-claimed room p h (stage.Replying a) new e = absurd (false≢true e)
 own-claimed room p h (stage.Done v r) new e = absurd (false≢true e)

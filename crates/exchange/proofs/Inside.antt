@@ -3,6 +3,7 @@ use Prim.Native.Nat.{ℕ, _≤_, _<_}
 use mathlib.Core.Path.{_≡_, refl, sym, ap, _∙_, subst}
 use mathlib.Core.Bool.{true, false, false≢true}
 use mathlib.Core.List.{List}
+use mathlib.Core.Logic.{⊎-elim}
 use native.Mathlib.Omega.{arith}
 use lib.Dec.{ltb}
 use lib.ListN.{length, List·getD-eq-default}
@@ -21,7 +22,7 @@ use Rattle.exchange.specs.Exchange.{ownPlace, incomingPlace, putOwn, put
 use Rattle.exchange.specs.Request.{notReady, refusedBy, refused, claimedAt, replyAccepted, Request, answerOf}
 use Rattle.exchange.specs.Rules.{Fours}
 use Rattle.exchange.specs.Range.{ownsInRange, incomingsInRange, messageInRange, sendingInRange, exchangeInRange}
-use Rattle.exchange.specs.History.{Call, block, tick, acknowledged, failed, request, called, Track}
+use Rattle.exchange.specs.History.{Call, block, tick, put-out, acknowledged, failed, request, called, Track}
 use Rattle.exchange.specs.Theorems.{OwnInside, IncomingInside, PlacesInside, ExchangeReachedInRange}
 use Rattle.exchange.proofs.Cases.{by-request}
 use Rattle.exchange.proofs.Filling.{fits-area}
@@ -65,8 +66,9 @@ module _ (c : Terms) (x : Exchange) (room : List ℕ) (four : Fours x) (g : Rang
       (λ p f d u a b. in-range p (length d) (ready-place x (four .incoming) p a) (fits-area d (u .fits))) (λ p e. g) (λ p e. g)
 
   pub one-ranged : (k : Call) → Ranged (called c x room k .exchange)
-  one-ranged (block h d) = ap sendingInRange (sending-ends c x .judged h d room) ∙ g
+  one-ranged (block h d) = ⊎-elim (λ e. ap sendingInRange e ∙ g) (λ w. ap sendingInRange (w .now)) (sending-ends c x .judged h d room)
   one-ranged tick = ap sendingInRange (sending-ends c x .ticked) ∙ g
+  one-ranged put-out = ap sendingInRange (sending-ends c x .put-out) ∙ g
   one-ranged acknowledged = ap sendingInRange (sending-ends c x .acknowledged)
   one-ranged failed = ap sendingInRange (sending-ends c x .failed)
   one-ranged (request r) = request-ranged r

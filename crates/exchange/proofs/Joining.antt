@@ -19,11 +19,12 @@ use Rattle.place.specs.declared.Fate.{Fate}
 use Rattle.place.specs.declared.Own.{Own}
 use Rattle.place.specs.declared.Incoming.{Incoming}
 use Rattle.exchange.specs.Note.{noteBy}
-use Rattle.exchange.specs.Exchange.{ownPlace, incomingPlace, putOwn, putIncoming, withSending, savedNow}
+use Rattle.exchange.specs.Exchange.{ownPlace, incomingPlace, putOwn, putIncoming, withSending, putReplied, savedNow}
 use Rattle.exchange.specs.Judge.{keepBy}
 use Rattle.exchange.specs.History.{Joined, anew, ifKept}
 use Rattle.exchange.specs.Releases.{Side}
 use Rattle.exchange.specs.Releases as side
+use Rattle.exchange.proofs.Cases.{by-behind}
 use Rattle.exchange.proofs.Tables.{set-every, map-every}
 use Rattle.exchange.proofs.Sides.{Place, fresh}
 use Rattle.exchange.proofs.Filling.{Spares, spares-same, spares-kept, fills-more}
@@ -165,6 +166,16 @@ module _ (x : Exchange) (room : List ℕ) (s : Joined) (g : Good x room s) where
     incoming = elsewhere (g .incoming) sp (λ p. apart _ _ (λ e. omega arith));
     sends = here;
   }
+
+-- a block of its reply puts a place anew: its primary is sent no more
+pub replied-good : (x : Exchange) (p : ℕ) (o : Own) (room : List ℕ) (s : Joined) → Good (putOwn x p o) room s → Good (putReplied x p o) room s
+unfolding putOwn putReplied withSending
+replied-good x p o room s g = record {
+  whole = g .whole;
+  own = g .own;
+  incoming = g .incoming;
+  sends = by-behind (λ z. SendHolds room z (s .outgoing)) (x .sending) p (λ e. tt) (λ e. g .sends);
+}
 
 -- ---- a block
 

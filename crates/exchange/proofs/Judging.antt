@@ -1,13 +1,14 @@
 -- Each test of judging is true exactly if 01's words hold (`specs/Rules.antt`). Assumes nothing.
 use Prim.Native.Nat.{ℕ, _+_, _<_}
-use mathlib.Core.Path.{_≡_, refl, sym, ap}
-use mathlib.Core.Bool.{Bool, true, _&&_, _||_, Bool·beq, false≢true}
+use mathlib.Core.Path.{_≡_, refl, sym, ap, _∙_}
+use mathlib.Core.Bool.{Bool, true, false, not, _&&_, _||_, Bool·beq, false≢true}
 use mathlib.Core.List.{List}
 use mathlib.Core.Logic.{_↔_, _⊎_, Iff·rfl}
 use lib.Dec.{eqb}
 use borrow.Author.Tests.{eqb-true, eq-eqb, ltb-true, lt-ltb}
 use Rattle.wire.specs.Message.{messageLimit}
 use Rattle.wire.proofs.Choice.{both, same-bits, either-of}
+use Rattle.header.specs.Header.{headerOf}
 use Rattle.header.specs.declared.header.Header.{Header}
 use Rattle.settings.specs.declared.terms.Terms.{Terms}
 use Rattle.place.specs.Message.{Routed}
@@ -26,8 +27,8 @@ use Rattle.table.specs.Incoming.{freeIncoming, messageFor, openAlike}
 use Rattle.table.proofs.Finding.{reply-lowest, free-incoming-lowest, message-lowest, open-alike-lowest}
 use Rattle.table.specs.declared.Found.the-variants.{At, Nowhere}
 use Rattle.exchange.specs.Exchange.{ownPlace, incomingPlace}
-use Rattle.exchange.specs.Judge.{isSaved, isDuplicate}
-use Rattle.exchange.specs.Rules.{Fours, Duplicate, OfReply, first, further, OfMessage, goes-on, Begins, ReplyHere, MessageHere, Expected, AlikeHere, AlikeAt, FreeHere, FreeAt, HasPlace, LowestAt}
+use Rattle.exchange.specs.Judge.{isMisrouted, isSaved, isDuplicate}
+use Rattle.exchange.specs.Rules.{Fours, Duplicate, New, IsAwaited, out, acked, OfReply, first, further, OfMessage, goes-on, Begins, ReplyHere, MessageHere, Expected, AlikeHere, AlikeAt, FreeHere, FreeAt, HasPlace, LowestAt}
 use Rattle.exchange.specs.declared.Exchange.{Exchange}
 use Rattle.exchange.proofs.Alike.{same-refl, same-eq}
 use Rattle.exchange.proofs.Finding.{found, somewhere, lowest, nowhere}
@@ -55,24 +56,49 @@ duplicate c x h = (
   λ u. both (c .duplicates) _ .1 (u .check, both (x .saved .any) _ .1 (u .any, rw (u .same) (same-refl h))),
 )
 
+-- what is asked of a block by 1 and 2
+abbrev pub Passed : Terms → Exchange → List ℕ → Type 0
+Passed c x h = (isMisrouted c (headerOf h) ≡ false) × (isDuplicate c x h ≡ false)
+
+not-false : (t : Bool) → not t ≡ false → t ≡ true
+not-false true e = refl
+not-false false e = absurd (false≢true (sym e))
+
+pub is-new : (c : Terms) (x : Exchange) (h : List ℕ) → Passed c x h → New c x h
+unfolding isMisrouted
+is-new c x h q = record {
+  routed = routed c (headerOf h) .0 (not-false _ (q .0));
+  no-duplicate = λ u. false≢true (sym (q .1) ∙ duplicate c x h .1 u);
+}
+
 -- ---- rule 3
+
+-- a place that awaits its reply takes the first block of it
+takes-first : (o : Own) (b : Header) → IsAwaited o → awaits o b ≡ true → OfReply o b
+unfolding awaits
+takes-first o b w t =
+    let u = both _ _ .0 t in
+    let v = reply-exactly b .0 (u .1) in
+    first w (sym (eqb-true _ _ (u .0))) (v .0) (v .1)
+
+awaited-takes : (o : Own) (b : Header) → IsAwaited o → ownTakes o b ≡ awaits o b
+awaited-takes o b (out e) = rw e
+awaited-takes o b (acked timer e) = rw e
 
 -- a place that takes a block as its reply's
 takes-reply : (s : OwnStage) (o : Own) (b : Header) → o .stage ≡ s → ownTakesAt s o b ≡ true → OfReply o b
-unfolding awaits continuesReply
+unfolding continuesReply
 takes-reply own.Free o b e t = absurd (false≢true t)
 takes-reply own.Sending o b e t = absurd (false≢true t)
-takes-reply (own.Awaiting timer) o b e t =
-    let w = both _ _ .0 t in
-    let v = reply-exactly b .0 (w .1) in
-    first timer e (sym (eqb-true _ _ (w .0))) (v .0) (v .1)
+takes-reply own.PutOut o b e t = takes-first o b (out e) t
+takes-reply (own.Awaiting timer) o b e t = takes-first o b (acked timer e) t
 takes-reply (own.Replying a) o b e t = further a e (continues-exactly _ _ a b .0 t)
 takes-reply (own.Done v r) o b e t = absurd (false≢true t)
 
 -- and a block that is
 of-reply : (o : Own) (b : Header) → OfReply o b → ownTakes o b ≡ true
 unfolding awaits continuesReply
-of-reply o b (first timer e s even n) = rw e (both _ _ .1 (eq-eqb _ _ (sym s), reply-exactly b .1 (even, n)))
+of-reply o b (first w s even n) = awaited-takes o b w ∙ both _ _ .1 (eq-eqb _ _ (sym s), reply-exactly b .1 (even, n))
 of-reply o b (further a e k) = rw e (continues-exactly _ _ a b .1 k)
 
 pub reply-says : (o : Own) (b : Header) → ownTakes o b ≡ true ↔ OfReply o b
@@ -122,8 +148,8 @@ module _ (x : Exchange) (four : Fours x) (b : Header) where
   pub reply-here : found (replyFor (x .own) b) ≡ true ↔ ReplyHere x b
   reply-here = somewhere _ _ _ (reply-lowest (x .own) b (four .own)) (λ p. reply-says _ b)
 
-  pub lowest-reply : (p : ℕ) → LowestAt (λ q. OfReply (ownPlace x q) b) p → replyFor (x .own) b ≡ At p
-  lowest-reply p = lowest _ _ _ (reply-lowest (x .own) b (four .own)) (λ q. reply-says _ b) p .1
+  pub lowest-reply : (p : ℕ) → (replyFor (x .own) b ≡ At p) ↔ LowestAt (λ q. OfReply (ownPlace x q) b) p
+  lowest-reply p = lowest _ _ _ (reply-lowest (x .own) b (four .own)) (λ q. reply-says _ b) p
 
   pub no-reply : (ReplyHere x b → ⊥) → replyFor (x .own) b ≡ Nowhere
   no-reply = nowhere _ _ _ (reply-lowest (x .own) b (four .own)) (λ p. reply-says _ b)

@@ -10,30 +10,34 @@ use Rattle.wire.proofs.Choice.{chosen}
 use Rattle.header.specs.Header.{headerOf}
 use Rattle.header.specs.declared.header.Header.{Header}
 use Rattle.place.specs.Fate.{beginsPrimary, fateOf}
-use Rattle.place.specs.Own.{ended, ownKept, ownHasVerdict, ownTakes, repliedBy, replied, ownOffered}
+use Rattle.place.specs.Own.{stageAt, ended, standingAt, givenBy, ownHasVerdict, ownKept, ownTakes, repliedBy, replied, ownOffered}
 use Rattle.place.specs.Incoming.{incomingLength, incomingTakes, keptBy, goesOn, incomingOffered}
 use Rattle.place.proofs.Messages.{by-fate}
 use Rattle.place.specs.declared.Fate.the-variants as fate
+use Rattle.place.specs.declared.OwnStage.{OwnStage}
 use Rattle.place.specs.declared.Own.{Own}
 use Rattle.place.specs.declared.Incoming.{Incoming}
+use Rattle.table.specs.Number.{numberOf}
 use Rattle.table.specs.Own.{replyFor}
 use Rattle.table.specs.Incoming.{messageFor}
 use Rattle.table.specs.declared.Found.{Found}
 use Rattle.table.specs.declared.Found.the-variants.{At, Nowhere}
 use Rattle.exchange.specs.Flags.{noMarks, markAt, noFlags, verdictFlag, incomingFlags}
-use Rattle.exchange.specs.Exchange.{ownPlace, incomingPlace, gotVerdict, savedNow}
-use Rattle.exchange.specs.Judge.{thrown, repliedAs, replyBlock, continuedAs, messageBlock, primaryBlock, orPrimary, ofMessage, noReplyBlock, ofReply, newBlock, judgeOf}
-use Rattle.exchange.specs.Rules.{OfReply, first, further, replyBytes, messageBytes, bytesBefore, BytesBefore, Untouched, Spoils, ReplyGoes, ReplyBlock, MessageGoes, MessageBlock, NoPlaceTaken}
+use Rattle.exchange.specs.Exchange.{ownPlace, incomingPlace, gotVerdict, latestAfter, putOwn, putIncoming, withSending, sentBehind, putReplied, savedNow}
+use Rattle.exchange.specs.Judge.{judging, thrown, repliedAs, replyBlock, continuedAs, messageBlock, primaryBlock, orPrimary, ofMessage, noReplyBlock, ofReply, newBlock, judgeOf}
+use Rattle.exchange.specs.Rules.{out, acked, OfReply, first, further, replyBytes, messageBytes, bytesBefore, BytesBefore, Comes, onlySaved, Untouched, ownBehind, Spoils, ReplyGoes, ReplyBlock, MessageGoes, MessageBlock, NoPlaceTaken}
+use Rattle.exchange.specs.declared.Note.{Note}
+use Rattle.exchange.specs.declared.Note.the-variants.{Kept}
 use Rattle.exchange.specs.declared.Exchange.{Exchange}
 use Rattle.exchange.proofs.Judging as test
-use Rattle.exchange.proofs.Leaving.{passes}
+use Rattle.exchange.proofs.Leaving.{passes, replied-there}
 use Rattle.exchange.proofs.Outcomes.{fate-kept}
 
 -- ---- what is kept before a block
 
 pub bytes-before : BytesBefore
 bytes-before x b four = record {
-  reply = λ p w. ap (λ (f : Found). replyBytes f (x .own) (x .incoming) b) (test.lowest-reply x four b p w);
+  reply = λ p w. ap (λ (f : Found). replyBytes f (x .own) (x .incoming) b) (test.lowest-reply x four b p .1 w);
   message = λ none p w.
       ap (λ (f : Found). replyBytes f (x .own) (x .incoming) b) (test.no-reply x four b none)
       ∙ ap (λ (f : Found). messageBytes f (x .incoming)) (test.lowest-message x four b p w);
@@ -52,7 +56,7 @@ no-mark (suc (suc zero)) = refl
 no-mark (suc (suc (suc zero))) = refl
 no-mark (suc (suc (suc (suc p)))) = refl
 
-no-verdict-flag : (p : ℕ) → verdictFlag p false ≡ noFlags
+pub no-verdict-flag : (p : ℕ) → verdictFlag p false ≡ noFlags
 no-verdict-flag p = λ k. record { verdicts = no-mark p k; completed = noMarks; dropped = noMarks }
 
 pub no-incoming-flag : (p : ℕ) → incomingFlags p false false ≡ noFlags
@@ -72,13 +76,29 @@ held t a b e = rw e
 
 -- it has no verdict yet
 undecided : (o : Own) (b : Header) → OfReply o b → ownHasVerdict o ≡ false
-undecided o b (first timer e s even n) = rw e
+undecided o b (first (out e) s even n) = rw e
+undecided o b (first (acked timer e) s even n) = rw e
 undecided o b (further a e k) = rw e
 
--- its verdict, if it gets one, is told
-flagged : (p : ℕ) (o q : Own) (given : Bool) → ownHasVerdict o ≡ false → ownHasVerdict q ≡ given → verdictFlag p (gotVerdict o q) ≡ verdictFlag p given
+-- it gets a verdict with the stage that has one
+now-given : (o q : Own) → ownHasVerdict o ≡ false → gotVerdict o q ≡ ownHasVerdict q
 unfolding gotVerdict
-flagged p o q given v e = rw (v, e)
+now-given o q v = rw v
+
+-- its number is the latest with its verdict, and this is told
+behind :
+    (x : Exchange) (h left : List ℕ) (p : ℕ) (s : OwnStage) (n : Note) → ownHasVerdict (ownPlace x p) ≡ false
+    → Comes
+    (judging (record { exchange = putReplied (savedNow x h) p (stageAt (ownPlace x p) s); note = n; flags = verdictFlag p (gotVerdict (ownPlace x p) (stageAt (ownPlace x p) s)) }) left)
+    (ownBehind x h p s (cond (givenBy (standingAt s)) (numberOf (ownPlace x p)) (x .numbers .latest))) (verdictFlag p (givenBy (standingAt s))) left
+unfolding putReplied withSending putOwn sentBehind savedNow latestAfter numberOf
+behind x h left p s n v =
+    let got = now-given (ownPlace x p) (stageAt (ownPlace x p) s) v in
+    record {
+      state = ap (λ (g : Bool). ownBehind x h p s (cond g (numberOf (ownPlace x p)) (x .numbers .latest))) got;
+      flags = ap (verdictFlag p) got;
+      bytes = refl;
+    }
 
 reply-goes :
     (x : Exchange) (h d room : List ℕ) (p : ℕ) → ownHasVerdict (ownPlace x p) ≡ false
@@ -90,15 +110,15 @@ reply-goes x h d room p v =
     let b = headerOf h in
     let have = ownKept (ownPlace x p) .length in
     record {
-      broken = λ s.
-          ⊎-elim (λ f. rw f (record { state = refl; flags = flagged p _ _ true v refl; bytes = refl })) (λ f. rw f (record { state = refl; flags = flagged p _ _ true v refl; bytes = refl }))
-          (spoils b have d s);
-      complete = λ w e. rw (fate-kept b have (length d) (w .has-data) (w .fits), e) (record { state = refl; flags = flagged p _ _ true v refl; bytes = refl });
-      more = λ w e. rw (fate-kept b have (length d) (w .has-data) (w .fits), e) (record { state = refl; flags = flagged p _ _ false v refl ∙ no-verdict-flag p; bytes = refl });
+      broken = λ s. ⊎-elim (λ f. rw f (behind x h room p _ _ v)) (λ f. rw f (behind x h room p _ _ v)) (spoils b have d s);
+      complete = λ w e. rw (fate-kept b have (length d) (w .has-data) (w .fits), e) (behind x h _ p _ _ v);
+      more = λ w e.
+          rw (fate-kept b have (length d) (w .has-data) (w .fits), e)
+          (let k = behind x h _ p _ Kept v in record { state = k .state; flags = k .flags ∙ no-verdict-flag p; bytes = k .bytes });
     }
 
 pub reply-block : ReplyBlock
-unfolding newBlock replyBlock ownOffered replied savedNow
+unfolding replyBlock ownOffered replied savedNow
 reply-block c x h d room four new p w =
     subst (ReplyGoes x h d room p (bytesBefore x b)) (sym judges)
     (subst (λ (n : ℕ). ReplyGoes x h d room p n (repliedAs (savedNow x h) p o (repliedBy o b (fateOf b have (length d))) (fateOf b have (length d)) d room)) (sym before)
@@ -113,16 +133,12 @@ reply-block c x h d room four new p w =
     have : ℕ
     have = ownKept o .length
 
-    found : replyFor (x .own) b ≡ At p
-    found = test.lowest-reply x four b p w
-
     before : bytesBefore x b ≡ have
     before = bytes-before x b four .reply p w
 
     judges : judgeOf c x h d room ≡ repliedAs (savedNow x h) p o (repliedBy o b (fateOf b have (length d))) (fateOf b have (length d)) d room
     judges =
-        passes c x h d room new
-        ∙ ap (λ (f : Found). ofReply f (savedNow x h) (headerOf h) d room) found
+        replied-there c x h d room four new p w
         ∙ ap (λ (q : Own). repliedAs (savedNow x h) p o q (fateOf b have (length d)) d room) (held (ownTakes o b) _ o (test.reply-says o b .1 (w .so)))
 
 -- ---- the message in an incoming place
@@ -133,6 +149,7 @@ message-goes :
     (continuedAs (savedNow x h) p (incomingPlace x p)
     (keptBy (incomingPlace x p) (headerOf h) (fateOf (headerOf h) (incomingLength (incomingPlace x p)) (length d)))
     (fateOf (headerOf h) (incomingLength (incomingPlace x p)) (length d)) d room)
+unfolding putIncoming savedNow
 message-goes x h d room p =
     let b = headerOf h in
     let have = incomingLength (incomingPlace x p) in
@@ -179,8 +196,8 @@ message-block c x h d room four new none p w =
 pub no-place-taken : NoPlaceTaken
 unfolding newBlock noReplyBlock orPrimary primaryBlock thrown savedNow
 no-place-taken c x h d room four new none no-message s =
-    subst (Untouched (savedNow x h) room) (sym judges)
-    (chosen (Untouched (savedNow x h) room) (beginsPrimary (headerOf h)) (primaryBlock (savedNow x h) (headerOf h) d room) _
+    subst (Untouched (onlySaved x h) room) (sym judges)
+    (chosen (Untouched (onlySaved x h) room) (beginsPrimary (headerOf h)) (primaryBlock (savedNow x h) (headerOf h) d room) _
     (λ e.
     ⊎-elim (λ f. rw f (record { state = refl; flags = refl; bytes = refl })) (λ f. rw f (record { state = refl; flags = refl; bytes = refl })) (spoils (headerOf h) 0 d s))
     (λ e. record { state = refl; flags = refl; bytes = refl }))

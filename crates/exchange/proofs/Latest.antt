@@ -50,6 +50,7 @@ ticked-number : (c : Terms) (h : List ℕ) (z : OwnStage) → numberShown (read 
 unfolding awaitTick replyTick ended
 ticked-number c h stage.Free = refl
 ticked-number c h stage.Sending = refl
+ticked-number c h stage.PutOut = refl
 ticked-number c h (stage.Awaiting timer) =
     let o : Own = record { header = h; stage = stage.Awaiting timer } in
     by-timer (c .t3) timer (λ t. numberShown (read (awaitedBy o t)) ≡ numberShown (read o)) (λ _. refl) (λ _. refl)
@@ -70,6 +71,7 @@ failed-steps : (c : Terms) (h : List ℕ) (z : OwnStage) → Steps c (record { h
 unfolding gets ended
 failed-steps c h stage.Free = same-steps c _
 failed-steps c h stage.Sending = record { of-line = refl; by-line = refl; by-tick = refl; number = refl }
+failed-steps c h stage.PutOut = record { of-line = refl; by-line = refl; by-tick = refl; number = refl }
 failed-steps c h (stage.Awaiting timer) = same-steps c _
 failed-steps c h (stage.Replying a) = same-steps c _
 failed-steps c h (stage.Done v r) = same-steps c _

@@ -28,17 +28,38 @@ use Rattle.table.specs.Incoming.{freeIncoming, openAlike}
 use Rattle.table.specs.declared.Found.{Found}
 use Rattle.exchange.specs.Note.{noteBy, noteNumber}
 use Rattle.exchange.specs.Flags.{incomingFlags}
-use Rattle.exchange.specs.Exchange.{ownPlace, incomingPlace, putOwn, putIncoming, savedNow}
+use Rattle.exchange.specs.Exchange.{ownPlace, incomingPlace, putOwn, putIncoming, withSending, sentBehind, putReplied, savedNow}
 use Rattle.exchange.specs.Judge.{Judging, judging, thrown, isMisrouted, isDuplicate, keepBy, replyBlock, messageBlock, beginsAt, inFree, inPlace, takesPlace, primaryBy, primaryBlock, orPrimary, ofMessage, noReplyBlock, ofReply, newBlock, judgeOf}
-use Rattle.exchange.specs.Rules.{Fours, AlikeHere, FreeHere, New, noted, Leaves, JudgeLeaves, NewPrimary, begunWith, begunIn, PlaceTaken}
+use Rattle.exchange.specs.Rules.{Fours, LowestAt, New, OfReply, AlikeHere, FreeHere, noted, OfReplyToSent, Leaves, JudgeLeaves, NewPrimary, incomingBehind, begunWith, begunIn, PlaceTaken}
 use Rattle.exchange.specs.declared.Note.{Note}
 use Rattle.exchange.specs.declared.Note.the-variants.{Kept, Misrouted, Duplicate, Stray, NoPlace, TooLong, Empty}
+use Rattle.exchange.specs.declared.Sending.the-variants.{Nothing}
 use Rattle.exchange.specs.declared.Exchange.{Exchange}
 use Rattle.exchange.proofs.Tests.{fails}
 use Rattle.exchange.proofs.Finding.{found}
-use Rattle.exchange.proofs.Cases.{Thrown, stray, no-place, too-long, empty, by-judge}
+use Rattle.exchange.proofs.Cases.{Thrown, stray, no-place, too-long, empty, by-behind, by-judge}
 use Rattle.exchange.proofs.Judging as test
 use Rattle.exchange.proofs.Notes.{placeNote, takes-note}
+
+-- ---- a block that is new
+
+-- neither misrouted nor a duplicate
+third : (r u : Bool) (j k m : Judging) → r ≡ true → u ≡ false → cond (not r) j (cond u k m) ≡ m
+third r u j k m a b = rw (a, b)
+
+-- a block that passed 1 and 2 is judged by the others
+pub passes : (c : Terms) (x : Exchange) (h d room : List ℕ) → New c x h → judgeOf c x h d room ≡ newBlock (savedNow x h) (headerOf h) d room
+unfolding judgeOf isMisrouted
+passes c x h d room new =
+    third (test.isRouted c (headerOf h)) (isDuplicate c x h) _ _ _
+    (test.routed c (headerOf h) .1 (new .routed)) (fails _ _ (test.duplicate c x h) (new .no-duplicate))
+
+-- one of the reply in own place p is judged there
+pub replied-there : (c : Terms) (x : Exchange) (h d room : List ℕ) → Fours x → New c x h → (p : ℕ) → LowestAt (λ q. OfReply (ownPlace x q) (headerOf h)) p
+    → judgeOf c x h d room ≡ replyBlock (savedNow x h) p (headerOf h) d room
+unfolding newBlock savedNow
+replied-there c x h d room four new p w =
+    passes c x h d room new ∙ ap (λ (f : Found). ofReply f (savedNow x h) (headerOf h) d room) (test.lowest-reply x four (headerOf h) p .1 w)
 
 -- ---- what is left
 
@@ -63,13 +84,19 @@ not-kept fate.TooLong room m have d n = refl
 not-kept (fate.Last k) room m have d n = absurd (n refl)
 not-kept (fate.More k) room m have d n = absurd (n refl)
 
-module _ (x : Exchange) (h d room : List ℕ) where
+module _ (c : Terms) (x : Exchange) (h d room : List ℕ) where
+  -- what is being sent goes on, or does not, as it should
+  abbrev Sends : Judging → Type 0
+  Sends j =
+      (Fours x → (OfReplyToSent c x h → ⊥) → j .answer .exchange .sending ≡ x .sending)
+      × (Fours x → OfReplyToSent c x h → j .answer .exchange .sending ≡ Nothing)
+
   -- by a block of a message that has its place, or gets one
   by-block :
       (j : Judging) (f : Fate) (m : Message) (have : ℕ) → noted j ≡ noteNumber (noteBy f)
       → j .answer .exchange .saved ≡ record { any = true; header = h } → j .answer .exchange .numbers .last ≡ x .numbers .last
-      → j .answer .exchange .sending ≡ x .sending → j .room ≡ keepBy f room m have d → Leaves x h room j
-  by-block j f m have note saved last sending kept = record {
+      → j .room ≡ keepBy f room m have d → Sends j → Leaves c x h room j
+  by-block j f m have note saved last kept sends = record {
     misrouted = λ e. absurd (no-rule f 22 (omega arith) (omega arith) (sym note ∙ e));
     duplicate = λ e. absurd (no-rule f 23 (omega arith) (omega arith) (sym note ∙ e));
     saves = λ a b. saved;
@@ -77,12 +104,13 @@ module _ (x : Exchange) (h d room : List ℕ) where
     no-place = λ e. absurd (no-rule f 25 (omega arith) (omega arith) (sym note ∙ e));
     thrown-out = λ n. kept ∙ not-kept f room m have d (λ e. n (note ∙ e));
     last = last;
-    sending = sending;
+    sending = sends .0;
+    withdrawn = sends .1;
   }
 
-  by-misrouted : Leaves x h room (thrown x Misrouted room)
+  by-misrouted : Sends (thrown x Misrouted room) → Leaves c x h room (thrown x Misrouted room)
   unfolding thrown
-  by-misrouted = record {
+  by-misrouted sends = record {
     misrouted = λ e. record { state = refl; flags = refl; bytes = refl };
     duplicate = λ e. absurd (omega arith);
     saves = λ a b. absurd (a refl);
@@ -90,12 +118,13 @@ module _ (x : Exchange) (h d room : List ℕ) where
     no-place = λ e. absurd (omega arith);
     thrown-out = λ n. refl;
     last = refl;
-    sending = refl;
+    sending = sends .0;
+    withdrawn = sends .1;
   }
 
-  by-duplicate : Leaves x h room (thrown x Duplicate room)
+  by-duplicate : Sends (thrown x Duplicate room) → Leaves c x h room (thrown x Duplicate room)
   unfolding thrown
-  by-duplicate = record {
+  by-duplicate sends = record {
     misrouted = λ e. absurd (omega arith);
     duplicate = λ e. record { state = refl; flags = refl; bytes = refl };
     saves = λ a b. absurd (b refl);
@@ -103,12 +132,13 @@ module _ (x : Exchange) (h d room : List ℕ) where
     no-place = λ e. absurd (omega arith);
     thrown-out = λ n. refl;
     last = refl;
-    sending = refl;
+    sending = sends .0;
+    withdrawn = sends .1;
   }
 
-  by-thrown : (n : Note) → Thrown n → Leaves x h room (thrown (savedNow x h) n room)
+  by-thrown : (n : Note) → Thrown n → Sends (thrown (savedNow x h) n room) → Leaves c x h room (thrown (savedNow x h) n room)
   unfolding thrown savedNow
-  by-thrown n t = record {
+  by-thrown n t sends = record {
     misrouted = λ e. let z : noteNumber n ≡ 22 = e in absurd (omega (arith, late n t));
     duplicate = λ e. let z : noteNumber n ≡ 23 = e in absurd (omega (arith, late n t));
     saves = λ a b. refl;
@@ -116,34 +146,40 @@ module _ (x : Exchange) (h d room : List ℕ) where
     no-place = λ e. record { state = refl; flags = refl; bytes = refl };
     thrown-out = λ m. refl;
     last = refl;
-    sending = refl;
+    sending = sends .0;
+    withdrawn = sends .1;
   }
 
+  -- a block that is not of the reply to it leaves it
+  goes-on : Fours x → (OfReplyToSent c x h → ⊥) → judgeOf c x h d room .answer .exchange .sending ≡ x .sending
+  unfolding thrown replyBlock messageBlock beginsAt putReplied putIncoming withSending savedNow
+  goes-on four none =
+      by-judge c x h d room (λ j. j .answer .exchange .sending ≡ x .sending) (λ q. refl) (λ q u. refl)
+      (λ p q r.
+      let of-it = test.lowest-reply x four (headerOf h) p .0 r in
+      by-behind (λ z. z ≡ x .sending) (x .sending) p
+      (λ e. absurd (none (record { new = test.is-new c x h q; place = p; of-it = of-it; sent = e }))) (λ e. refl))
+      (λ p q r m. refl) (λ p gone f q r m o e s t. refl) (λ n t r m. refl)
+
+  -- one of the reply to it ends it
+  ends : Fours x → OfReplyToSent c x h → judgeOf c x h d room .answer .exchange .sending ≡ Nothing
+  unfolding replyBlock putReplied withSending sentBehind savedNow
+  ends four w = ap (λ (j : Judging). j .answer .exchange .sending) (replied-there c x h d room four (w .new) (w .place) (w .of-it)) ∙ rw (w .sent)
+
 pub judge-leaves : JudgeLeaves
-unfolding replyBlock messageBlock beginsAt putOwn putIncoming savedNow
+unfolding replyBlock messageBlock beginsAt putOwn putReplied putIncoming withSending savedNow
 judge-leaves c x h d room =
-    by-judge c x h d room (Leaves x h room) (λ q. by-misrouted x h d room) (λ q u. by-duplicate x h d room)
+    by-judge c x h d room (λ j. Sends c x h d room j → Leaves c x h room j) (λ q. by-misrouted c x h d room) (λ q u. by-duplicate c x h d room)
     (λ p q r.
-    by-block x h d room _ (fateOf (headerOf h) (ownKept (ownPlace x p) .length) (length d)) (message.Reply p) (ownKept (ownPlace x p) .length)
-    refl refl refl refl refl)
+    by-block c x h d room _ (fateOf (headerOf h) (ownKept (ownPlace x p) .length) (length d)) (message.Reply p) (ownKept (ownPlace x p) .length)
+    refl refl refl refl)
     (λ p q r m.
-    by-block x h d room _ (fateOf (headerOf h) (incomingLength (incomingPlace x p)) (length d)) (message.Incoming p) (incomingLength (incomingPlace x p))
-    refl refl refl refl refl)
-    (λ p gone f q r m o e s t. by-block x h d room _ (fate.Last 0) (message.Incoming p) 0 refl refl refl refl refl)
-    (λ n t r m. by-thrown x h d room n t)
+    by-block c x h d room _ (fateOf (headerOf h) (incomingLength (incomingPlace x p)) (length d)) (message.Incoming p) (incomingLength (incomingPlace x p))
+    refl refl refl refl)
+    (λ p gone f q r m o e s t. by-block c x h d room _ (fate.Last 0) (message.Incoming p) 0 refl refl refl refl)
+    (λ n t r m. by-thrown c x h d room n t) (goes-on c x h d room, ends c x h d room)
 
 -- ---- the place of a new primary
-
--- neither misrouted nor a duplicate
-third : (r u : Bool) (j k m : Judging) → r ≡ true → u ≡ false → cond (not r) j (cond u k m) ≡ m
-third r u j k m a b = rw (a, b)
-
--- a block that passed 1 and 2 is judged by the others
-pub passes : (c : Terms) (x : Exchange) (h d room : List ℕ) → New c x h → judgeOf c x h d room ≡ newBlock (savedNow x h) (headerOf h) d room
-unfolding judgeOf isMisrouted
-passes c x h d room new =
-    third (test.isRouted c (headerOf h)) (isDuplicate c x h) _ _ _
-    (test.routed c (headerOf h) .1 (new .routed)) (fails _ _ (test.duplicate c x h) (new .no-duplicate))
 
 -- it is judged by rule 6
 by-rule-6 : (c : Terms) (x : Exchange) (h d room : List ℕ) → Fours x → NewPrimary c x h d → judgeOf c x h d room ≡ takesPlace (savedNow x h) (headerOf h) (headerOf h .e) d room
@@ -176,9 +212,9 @@ begun-there (incoming.Replied m e) i h n t has fits = absurd (false≢true t)
 begins-there :
     (c : Terms) (x : Exchange) (h d room : List ℕ) (p : ℕ) (gone : Bool) → NewPrimary c x h d → (openAt (incomingPlace x p .stage) || freeAt (incomingPlace x p .stage) ≡ true)
     → beginsAt (savedNow x h) p (headerOf h) gone (headerOf h .e) d room ≡ begunIn x p h gone d room
-unfolding beginsAt savedNow
+unfolding beginsAt putIncoming savedNow
 begins-there c x h d room p gone new t =
-    ap (λ (i : Incoming). judging (record { exchange = putIncoming (savedNow x h) p i; note = Kept; flags = incomingFlags p (headerOf h .e) gone }) (keptIn room (message.Incoming p) 0 d))
+    ap (λ (i : Incoming). judging (record { exchange = incomingBehind x h p i; note = Kept; flags = incomingFlags p (headerOf h .e) gone }) (keptIn room (message.Incoming p) 0 d))
     (begun-there (incomingPlace x p .stage) (incomingPlace x p) (headerOf h) (length d) t (new .has-data) (new .fits))
 
 -- note 25 where there is neither

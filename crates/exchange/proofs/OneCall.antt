@@ -12,7 +12,6 @@ use Rattle.header.specs.Header.{headerOf}
 use Rattle.header.specs.declared.header.Header.{Header}
 use Rattle.settings.specs.declared.terms.Terms.{Terms}
 use Rattle.place.specs.Fate.{fateOf}
-use Rattle.place.specs.Message.{Routed}
 use Rattle.place.specs.Own.{givenBy, ownStanding}
 use Rattle.place.specs.OwnHistory as own
 use Rattle.place.specs.Incoming.{freeAt, openAt, completeAt, repliedAt}
@@ -31,19 +30,19 @@ use Rattle.table.specs.declared.Found.the-variants.{At, Nowhere}
 use Rattle.table.proofs.Finding.{reply-lowest, message-lowest}
 use Rattle.table.proofs.Tables.{own-table, incoming-table}
 use Rattle.exchange.specs.Note.{noteBy}
-use Rattle.exchange.specs.Exchange.{ownPlace, incomingPlace, putOwn, putIncoming, withSending, savedNow}
+use Rattle.exchange.specs.Exchange.{ownPlace, incomingPlace, putOwn, putIncoming, withSending, sentFrom, putReplied, savedNow}
 use Rattle.exchange.specs.Tick.{tickOf}
-use Rattle.exchange.specs.Send.{endedOwn, endedReply, sentBy, failedBy}
-use Rattle.exchange.specs.Judge.{thrown, isMisrouted, spoiltBy, replyBlock, messageBlock, beginsAt, judgeOf}
+use Rattle.exchange.specs.Send.{putOutBy, endedOwn, endedReply, sentBy, failedBy}
+use Rattle.exchange.specs.Judge.{thrown, spoiltBy, replyBlock, messageBlock, beginsAt, judgeOf}
 use Rattle.exchange.specs.Request.{notReady, refusedBy, refused, claimedAt, replyAccepted, Request, answerOf}
-use Rattle.exchange.specs.History.{Call, block, tick, acknowledged, failed, request, called}
+use Rattle.exchange.specs.History.{Call, block, tick, put-out, acknowledged, failed, request, called}
 use Rattle.exchange.specs.Releases.{Side, releases, frees}
 use Rattle.exchange.specs.Releases as side
-use Rattle.exchange.specs.Watching.{toldBy, foundAt, takenAt, sentFrom, ownTaken, takenBy, seesBlock, freedSeen, incomingTaken}
+use Rattle.exchange.specs.Watching.{toldBy, foundAt, takenAt, ownTaken, takenBy, seesBlock, freedSeen, incomingTaken}
 use Rattle.exchange.proofs.Cases.{Thrown, stray, no-place, too-long, empty, Takes, by-judge, by-request}
 use Rattle.exchange.proofs.Tables.{set-one}
 use Rattle.exchange.proofs.Sides.{Place, Event, Seen, fresh, nothingSeen, step, sees, spares, table, place, watches, Happens, nothing, event, by-event}
-use Rattle.exchange.proofs.Judging.{routed}
+use Rattle.exchange.proofs.Judging.{is-new}
 use Rattle.exchange.proofs.Areas.{taken-place}
 use Rattle.exchange.specs.declared.Note.{Note}
 use Rattle.exchange.specs.declared.Sending.{Sending}
@@ -56,15 +55,6 @@ use Rattle.exchange.specs.declared.Exchange.{Exchange}
 pub same-either : {S : Type 0} (t : Bool) (s : S) → cond t s s ≡ s
 same-either true s = refl
 same-either false s = refl
-
--- a block that is not misrouted
-not-false : (t : Bool) → not t ≡ false → t ≡ true
-not-false true e = refl
-not-false false e = absurd (false≢true (sym e))
-
-pub right-way : (c : Terms) (b : Header) → isMisrouted c b ≡ false → Routed c b
-unfolding isMisrouted
-right-way c b e = routed c b .0 (not-false _ e)
 
 -- the note of a block that a place takes tells what became of it
 told : (t : Bool) (f : Fate) → t ≡ true → toldBy (noteBy f) ≡ cond t (own.answerBy f) own.passed
@@ -147,7 +137,7 @@ module _ (c : Terms) (x : Exchange) (p : ℕ) (k : p < 4) where
       (λ j. rw j (event e (i j))) nothing
 
   judged : (room h d : List ℕ) → Both (λ z. Does z false (judgeOf c x h d room .answer .exchange) (λ s. watches z c p x room s (block h d)))
-  unfolding thrown replyBlock messageBlock beginsAt savedNow putOwn putIncoming own.answerTo incoming.answerNext
+  unfolding thrown replyBlock messageBlock beginsAt savedNow putOwn putReplied putIncoming withSending own.answerTo incoming.answerNext
   judged room h d =
       let b = headerOf h in
       let new = takenBy (openAlike (x .incoming) b) (freeIncoming (x .incoming)) in
@@ -161,21 +151,21 @@ module _ (c : Terms) (x : Exchange) (p : ℕ) (k : p < 4) where
       (λ q e r. (
         λ four s.
             rw (r, told _ _ (reply-lowest (x .own) b four .at q .0 r .1))
-            (put side.own false q (own.block b (length d) (right-way c b e)) (λ z. refl) four s),
+            (put side.own false q (own.block b (length d) (is-new c x h e .routed)) (λ z. refl) four s),
         λ four s. rw r nothing,
       ))
       (λ q e r m. (
         λ four s. rw r nothing,
         λ four s.
             rw (r, m, told _ _ (message-lowest (x .incoming) b four .at q .0 m .1))
-            (put side.incoming false q (incoming.block b (length d) (right-way c b e)) (λ z. refl) four s),
+            (put side.incoming false q (incoming.block b (length d) (is-new c x h e .routed)) (λ z. refl) four s),
       ))
       (λ q gone f e r m o v u t. (
         λ four s. rw r nothing,
         λ four s.
             rw (r, m, takes-found x b q gone t)
             (rw (first-told (incomingPlace x q) b (length d) (taken-place x b q gone four t .1) (ap spoiltBy v ∙ u)) at
-            (put side.incoming false q (incoming.begin b (length d) (right-way c b e) o) (λ z. refl) four s)),
+            (put side.incoming false q (incoming.begin b (length d) (is-new c x h e .routed) o) (λ z. refl) four s)),
       ))
       (λ n t r m. (λ four s. rw r nothing, λ four s. rw (r, m, thrown-first n t, same-either) nothing))
 
@@ -185,6 +175,12 @@ module _ (c : Terms) (x : Exchange) (p : ℕ) (k : p < 4) where
     λ four s. rw (own-table (x .own) c four .1 .each p k) (event own.tick refl),
     λ four s. rw (incoming-table (x .incoming) c four .1 .each p k) (event incoming.tick refl),
   )
+
+  goes-out : (q : Sending) → Does side.own false (putOutBy q x) (λ s. cond (sentFrom q p) (own.wentOut (s .request) s) s) × Does side.incoming false (putOutBy q x) (λ s. s)
+  unfolding putOwn
+  goes-out sending.Nothing = (λ four s. nothing, λ four s. nothing)
+  goes-out (sending.Primary q n) = (put side.own false q own.put-out (λ z. refl), λ four s. nothing)
+  goes-out (sending.Reply q f n) = (λ four s. nothing, λ four s. nothing)
 
   sent : (q : Sending) → Does side.own false (sentBy q x .exchange) (λ s. cond (sentFrom q p) (own.acked (s .request) s) s) × Does side.incoming false (sentBy q x .exchange) (λ s. s)
   unfolding endedOwn endedReply putOwn putIncoming withSending
@@ -220,6 +216,7 @@ module _ (c : Terms) (x : Exchange) (p : ℕ) (k : p < 4) where
   calls : (room : List ℕ) (j : Call) → Both (λ z. Does z (frees j z p) (called c x room j .exchange) (λ s. watches z c p x room s j))
   calls room (block h d) = judged room h d
   calls room tick = ticked
+  calls room put-out = goes-out (x .sending)
   calls room acknowledged = sent (x .sending)
   calls room failed = lost (x .sending)
   calls room (request r) = asked room r

@@ -27,16 +27,20 @@ use Rattle.place.specs.declared.Own.{Own}
 use Rattle.place.specs.declared.IncomingStage.{IncomingStage}
 use Rattle.place.specs.declared.IncomingStage.the-variants as incoming
 use Rattle.place.specs.declared.Incoming.{Incoming}
+use Rattle.table.specs.Own.{ownPut}
+use Rattle.table.specs.Incoming.{incomingPut}
 use Rattle.table.specs.Theorems.{Alike}
-use Rattle.exchange.specs.Exchange.{ownPlace, incomingPlace, putOwn, putIncoming, savedNow}
-use Rattle.exchange.specs.Tick.{tickOf, ownTimed}
+use Rattle.exchange.specs.Exchange.{ownPlace, incomingPlace, sentBehind}
+use Rattle.exchange.specs.Tick.{tickOf}
 use Rattle.exchange.specs.Rules.{Fours}
 use Rattle.exchange.specs.Releases.{Side}
 use Rattle.exchange.specs.Releases as side
-use Rattle.exchange.specs.Assembly.{passes}
+use Rattle.exchange.specs.Assembly.{passes, expectsAt}
+use Rattle.exchange.specs.declared.Numbers.{Numbers}
+use Rattle.exchange.specs.declared.Sending.{Sending}
 use Rattle.exchange.specs.declared.Exchange.{Exchange}
+use Rattle.exchange.proofs.Cases.{by-behind}
 use Rattle.exchange.proofs.Sides.{Place, place}
-use Rattle.exchange.proofs.Joining.{putIn}
 
 -- ---- one tick
 
@@ -146,7 +150,7 @@ not-alike c b i = by (i .stage)
     by (incoming.Replying m) n w = n w
     by (incoming.Replied m e) n w = n w
 
--- T3 or T4 ran there before, and the header stays
+-- T3 or T4 runs on, or out, and the header stays
 awaited-header : (o : Own) (w : Timer) → awaitedBy o w .header ≡ o .header
 unfolding ended
 awaited-header o RunsOut = refl
@@ -157,13 +161,14 @@ unfolding ended
 replying-header o Broken = refl
 replying-header o (Still a) = refl
 
--- T3 or T4 runs at a place whose primary has these system bytes
-abbrev pub Timed : ℕ → Own → Type 0
-Timed n o = (ownTimed o ≡ true) × (primaryOf o .system ≡ n)
+-- a reply is awaited, or blocks of it are kept, at a place whose primary has these system bytes
+abbrev pub Expects : ℕ → Own → Type 0
+Expects n o = (expectsAt (o .stage) ≡ true) × (primaryOf o .system ≡ n)
 
-pub not-timed : (c : Terms) (n : ℕ) (o : Own) → (Timed n o → ⊥) → Timed n (ownTick c o) → ⊥
+-- so it was there before the tick
+pub not-expected : (c : Terms) (n : ℕ) (o : Own) → (Expects n o → ⊥) → Expects n (ownTick c o) → ⊥
 unfolding awaitTick replyTick
-not-timed c n o = by (o .stage)
+not-expected c n o = by (o .stage)
   where
     at : OwnStage → Own
     at s = record { header = o .header; stage = s }
@@ -171,19 +176,31 @@ not-timed c n o = by (o .stage)
     same : {h : List ℕ} → h ≡ o .header → headerOf h .system ≡ n → headerOf (o .header) .system ≡ n
     same e w = ap (λ (h : List ℕ). headerOf h .system) (sym e) ∙ w
 
-    by : (s : OwnStage) → (Timed n (at s) → ⊥) → Timed n (ownTick c (at s)) → ⊥
+    by : (s : OwnStage) → (Expects n (at s) → ⊥) → Expects n (ownTick c (at s)) → ⊥
     by own.Free m w = m w
     by own.Sending m w = m w
+    by own.PutOut m w = m w
     by (own.Awaiting timer) m w = m (refl, same (awaited-header (at (own.Awaiting timer)) (counted (c .t3) timer)) (w .1))
     by (own.Replying a) m w = m (refl, same (replying-header (at (own.Replying a)) (arrivingTick c a)) (w .1))
     by (own.Done v r) m w = m w
 
 -- ---- but for one place
 
--- y is x but for place p on side z, for the saved header and for the transaction numbers
+-- what is being sent once a block of the message in place p has come: of a reply, not its primary
+abbrev pub sentPast : Side → ℕ → Sending → Sending
+sentPast side.own p m = sentBehind m p
+sentPast side.incoming p m = m
+
+-- a second block changes it no more
+past-twice : (z : Side) (p : ℕ) (m : Sending) → sentPast z p (sentPast z p m) ≡ sentPast z p m
+unfolding sentBehind
+past-twice side.own p m = by-behind (λ n. sentBehind n p ≡ n) m p (λ e. refl) (λ e. rw e)
+past-twice side.incoming p m = refl
+
+-- y is x but for place p on side z, for the sending of its primary, for the saved header and for the transaction numbers
 pub record Beside (z : Side) (p : ℕ) (x y : Exchange) : Type 0 where
   pub others : (s : Side) (q : ℕ) → (s ≡ z → q ≢ p) → place s y q ≡ place s x q
-  pub sending : y .sending ≡ x .sending
+  pub sending : sentPast z p (y .sending) ≡ sentPast z p (x .sending)
 
 pub itself : (z : Side) (p : ℕ) (x : Exchange) → Beside z p x x
 itself z p x = record { others = λ s q ne. refl; sending = refl }
@@ -206,37 +223,43 @@ beside-ticks z p c x y b (suc n) =
     let w = beside-ticks z p c x y b n in
     record {
       others = λ s q ne. ticked s c (passes c y n) q ∙ ap (tickAt s c) (w .others s q ne) ∙ sym (ticked s c (passes c x n) q);
-      sending = sending-stays c y (suc n) ∙ b .sending ∙ sym (sending-stays c x (suc n));
+      sending = ap (sentPast z p) (sending-stays c y (suc n)) ∙ b .sending ∙ sym (ap (sentPast z p) (sending-stays c x (suc n)));
     }
 
--- and so once that place is put anew, with a header that is saved
-module _ (p : ℕ) (y : Exchange) (h : List ℕ) where
-  put-others : (z : Side) (o : Place z) (s : Side) (q : ℕ) → (s ≡ z → q ≢ p) → place s (putIn z (savedNow y h) p o) q ≡ place s y q
-  unfolding putOwn putIncoming savedNow
+-- place p of side z alone is put anew
+abbrev ownsBy : (z : Side) → List Own → ℕ → Place z → List Own
+ownsBy side.own l p o = ownPut l p o
+ownsBy side.incoming l p i = l
+
+abbrev incomingsBy : (z : Side) → List Incoming → ℕ → Place z → List Incoming
+incomingsBy side.own l p o = l
+incomingsBy side.incoming l p i = incomingPut l p i
+
+-- by a block of its message with header bytes h; n are the transaction numbers then
+abbrev pub putBlock : (z : Side) → Exchange → List ℕ → ℕ → Place z → Numbers → Exchange
+putBlock z y h p o n = record {
+  own = ownsBy z (y .own) p o;
+  incoming = incomingsBy z (y .incoming) p o;
+  saved = record { any = true; header = h };
+  numbers = n;
+  sending = sentPast z p (y .sending);
+}
+
+-- and so once that place is put so
+module _ (p : ℕ) (y : Exchange) (h : List ℕ) (n : Numbers) where
+  put-others : (z : Side) (o : Place z) (s : Side) (q : ℕ) → (s ≡ z → q ≢ p) → place s (putBlock z y h p o n) q ≡ place s y q
   put-others side.own o side.own q ne = getD-set-other (y .own) p q o freshOwn (ne refl)
   put-others side.own o side.incoming q ne = refl
   put-others side.incoming i side.own q ne = refl
   put-others side.incoming i side.incoming q ne = getD-set-other (y .incoming) p q i freshIncoming (ne refl)
 
-  put-sending : (z : Side) (o : Place z) → putIn z (savedNow y h) p o .sending ≡ y .sending
-  unfolding putOwn putIncoming savedNow
-  put-sending side.own o = refl
-  put-sending side.incoming i = refl
-
-  pub put-saved : (z : Side) (o : Place z) → putIn z (savedNow y h) p o .saved ≡ record { any = true; header = h }
-  unfolding putOwn putIncoming savedNow
-  put-saved side.own o = refl
-  put-saved side.incoming i = refl
-
-  pub put-fours : (z : Side) (o : Place z) → Fours y → Fours (putIn z (savedNow y h) p o)
-  unfolding putOwn putIncoming savedNow
+  pub put-fours : (z : Side) (o : Place z) → Fours y → Fours (putBlock z y h p o n)
   put-fours side.own o four = record { own = length-set (y .own) p o ∙ four .own; incoming = four .incoming }
   put-fours side.incoming i four = record { own = four .own; incoming = length-set (y .incoming) p i ∙ four .incoming }
 
-  pub put-there : (z : Side) (o : Place z) → Fours y → p < 4 → place z (putIn z (savedNow y h) p o) p ≡ o
-  unfolding putOwn putIncoming savedNow
+  pub put-there : (z : Side) (o : Place z) → Fours y → p < 4 → place z (putBlock z y h p o n) p ≡ o
   put-there side.own o four k = getD-set-same (y .own) p o freshOwn (omega (arith, four .own))
   put-there side.incoming i four k = getD-set-same (y .incoming) p i freshIncoming (omega (arith, four .incoming))
 
-  pub beside-put : (z : Side) (o : Place z) (x : Exchange) → Beside z p x y → Beside z p x (putIn z (savedNow y h) p o)
-  beside-put z o x b = record { others = λ s q ne. put-others z o s q ne ∙ b .others s q ne; sending = put-sending z o ∙ b .sending }
+  pub beside-put : (z : Side) (o : Place z) (x : Exchange) → Beside z p x y → Beside z p x (putBlock z y h p o n)
+  beside-put z o x b = record { others = λ s q ne. put-others z o s q ne ∙ b .others s q ne; sending = past-twice z p (y .sending) ∙ b .sending }

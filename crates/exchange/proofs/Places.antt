@@ -5,8 +5,10 @@ use mathlib.Core.Bool.{true, false, false≢true, true≢false}
 use mathlib.Core.List.{List}
 use mathlib.Core.Logic.{_↔_, _⊎_, inl, inr, ⊎-elim}
 use native.Mathlib.Omega.{arith}
-use lib.ListN.{List·getD-eq-default}
-use Rattle.wire.proofs.Choice.{chosen}
+use lib.Dec.{ltb}
+use lib.ListN.{getD, replicate, getD-replicate, List·getD-eq-default}
+use borrow.Author.Tests.{ltb-true, ltb-false}
+use Rattle.wire.proofs.Choice.{either, chosen}
 use Rattle.header.specs.declared.header.Header.{Header}
 use Rattle.place.specs.Own.{freshOwn, ownStanding, standingAt}
 use Rattle.place.specs.Incoming.{freshIncoming}
@@ -18,10 +20,10 @@ use Rattle.place.specs.declared.OwnStage.{OwnStage}
 use Rattle.place.specs.declared.OwnStage.the-variants as own
 use Rattle.place.specs.declared.IncomingStage.{IncomingStage}
 use Rattle.place.specs.declared.IncomingStage.the-variants as incoming
-use Rattle.exchange.specs.Exchange.{ownPlace, incomingPlace}
+use Rattle.exchange.specs.Exchange.{freshExchange, ownPlace, incomingPlace}
 use Rattle.exchange.specs.Reading.{ownReading, wanted, incomingReading, stageBy}
 use Rattle.exchange.specs.Underway.{none, wayAt}
-use Rattle.exchange.specs.Places.{NoPlaceExactly, OwedExactly}
+use Rattle.exchange.specs.Places.{NoPlaceExactly, OwedExactly, FreshExactly}
 use Rattle.exchange.specs.declared.OwnReading.the-variants as read-own
 use Rattle.exchange.specs.declared.IncomingReading.the-variants as read-incoming
 use Rattle.exchange.specs.declared.ReplyStage.{ReplyStage}
@@ -38,6 +40,7 @@ clash z = absurd (omega arith)
 none-own : (h : List ℕ) (z : OwnStage) → (read (record { header = h; stage = z }) ≡ read-own.NoPlace) ↔ (standingAt z ≡ Free)
 none-own h own.Free = (λ e. refl, λ e. refl)
 none-own h own.Sending = (λ e. clash cc, λ e. clash cc)
+none-own h own.PutOut = (λ e. clash cc, λ e. clash cc)
 none-own h (own.Awaiting timer) = (λ e. clash cc, λ e. clash cc)
 none-own h (own.Replying a) = (λ e. clash cc, λ e. clash cc)
 none-own h (own.Done v r) = (λ e. clash cc, λ e. clash cc)
@@ -97,3 +100,22 @@ pub owed-exactly : OwedExactly
 unfolding incomingReading
 owed-exactly x p =
     let i = incomingPlace x p in record { owed = owed-at (i .header) (i .stage); not-owed = not-owed-at (i .header) (i .stage) }
+
+-- ---- a start
+
+-- each place of a fresh table is the fresh one, and so is what is read above it
+all-fresh : {A : Type 0} (a : A) (p : ℕ) → getD (replicate 4 a) p a ≡ a
+all-fresh a p = either (ltb p 4) (λ t. getD (replicate 4 a) p a ≡ a) (λ e. getD-replicate 4 p a a (ltb-true p 4 e)) (λ e. List·getD-eq-default (replicate 4 a) a {n = p} (ltb-false p 4 e))
+
+pub fresh-exactly : FreshExactly
+fresh-exactly last =
+    let x = freshExchange last in
+    record {
+      fours = record { own = refl; incoming = refl };
+      own = λ p. no-place-exactly x p .own .1 (ap ownStanding (all-fresh freshOwn p));
+      incoming = λ p. no-place-exactly x p .incoming .1 (ap shows (all-fresh freshIncoming p));
+      none-saved = refl;
+      sending = refl;
+      last = refl;
+      latest = refl;
+    }

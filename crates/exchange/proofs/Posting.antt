@@ -3,6 +3,7 @@ use Prim.Native.Nat.{ℕ, _+_, _*_, _≤_, _<_}
 use mathlib.Core.Path.{_≡_, refl, sym, ap, _∙_, subst}
 use mathlib.Core.Bool.{Bool, true, false, cond, false≢true}
 use mathlib.Core.List.{List, [], _∷_}
+use mathlib.Core.Logic.{⊎-elim}
 use native.Mathlib.Omega.{arith}
 use lib.ListN.{length}
 use borrow.Author.Tests.{eq-eqb}
@@ -11,7 +12,7 @@ use Rattle.header.specs.declared.header.Header.{Header}
 use Rattle.settings.specs.declared.terms.Terms.{Terms}
 use Rattle.place.specs.Own.{primaryOf as ownPrimary}
 use Rattle.place.specs.OwnHistory as own
-use Rattle.place.proofs.Verdicts.{request-shown}
+use Rattle.place.proofs.Verdicts.{request-shown, sent-header, answered-header}
 use Rattle.place.specs.Incoming.{primaryOf as incomingPrimary, freshIncoming}
 use Rattle.place.specs.IncomingHistory as incoming
 use Rattle.place.specs.IncomingTheorems.{isComplete}
@@ -26,7 +27,7 @@ use Rattle.table.specs.Own.{replyFor}
 use Rattle.table.specs.Incoming.{messageFor, openAlike, freeIncoming}
 use Rattle.table.specs.declared.Found.{Found}
 use Rattle.table.specs.declared.Found.the-variants.{At, Nowhere}
-use Rattle.exchange.specs.Exchange.{freshExchange, ownPlace, incomingPlace}
+use Rattle.exchange.specs.Exchange.{freshExchange, ownPlace, incomingPlace, sentFrom}
 use Rattle.exchange.specs.Send.{outgoingAt, outgoingOf}
 use Rattle.exchange.specs.Judge.{judgeOf}
 use Rattle.exchange.specs.Request.{sendingBy, isSending, Request, primary, reply, free-own, free-incoming, answerOf}
@@ -35,11 +36,11 @@ use Rattle.exchange.specs.Reading.{incomingReading, headerBy, ownReading
 use Rattle.exchange.specs.Refusals.{Replied}
 use Rattle.exchange.specs.Rules.{Fours}
 use Rattle.exchange.specs.Numbers.{numberShown}
-use Rattle.exchange.specs.History.{Call, block, tick, acknowledged, failed, request, called, Joined, ofNew, ofReply, joins, ifKept, joinsAsked, sees, Track, next, track, atStart}
+use Rattle.exchange.specs.History.{Call, block, tick, put-out, acknowledged, failed, request, called, Joined, ofNew, ofReply, joins, ifKept, joinsAsked, sees, Track, next, track, atStart}
 use Rattle.exchange.specs.Releases as side
 use Rattle.exchange.specs.Theorems.{lengthSent}
-use Rattle.exchange.specs.Watching.{toldBy, foundAt, takenAt, acceptedAs, sentFrom, replyFrom, ownTaken, ownSees, OwnAt, watch}
-use Rattle.exchange.specs.Underway.{Way, none, wayAt, way, isOnway, Underway, ReplyAt, replySees}
+use Rattle.exchange.specs.Watching.{toldBy, foundAt, takenAt, acceptedAs, replyFrom, ownTaken, ownSees, OwnAt, watch}
+use Rattle.exchange.specs.Underway.{OnItsWay, Way, none, wayAt, way, isOnway, Underway, ReplyAt, replySees}
 use Rattle.exchange.specs.Posting.{Post, post, nothingPosted, primaryAsked, replyAsked, postAsked, postSees, OutgoingAccepted}
 use Rattle.exchange.specs.declared.Sending.{Sending}
 use Rattle.exchange.specs.declared.Sending.the-variants as sending
@@ -60,41 +61,35 @@ use Rattle.exchange.proofs.Ranges.{sending-fits-exactly}
 use Rattle.exchange.proofs.Inside.{Ranged, one-ranged}
 use Rattle.exchange.proofs.Runs.{Sound, four-places, sound-fresh, run-any}
 use Rattle.exchange.proofs.Watching.{own-watched-on, watched-start}
-use Rattle.exchange.proofs.Underway.{none-apart, underway-open, underway-on}
+use Rattle.exchange.proofs.Underway.{apart, underway-open, underway-on}
 use Rattle.exchange.proofs.Replies.{reply-watched-on}
 use Rattle.exchange.proofs.Repeated.{any-fresh}
 use Rattle.exchange.proofs.Numbering.{given-shown, numbers-kept-on}
 
 -- ---- what the onlookers of the places know of it
 
--- a request that is underway keeps its header
+-- a request that is underway or out keeps its header
 module _ (s : own.Seen) where
-  answered-header : (t : Bool) (a : own.Answer) (b : Header) (n : ℕ) → cond t (own.answered a s b n) s .header ≡ s .header
-  answered-header true own.passed b n = refl
-  answered-header true own.kept b n = refl
-  answered-header true own.spoilt b n = refl
-  answered-header false a b n = refl
+  -- whether this is its place or not
+  either-header : (t : Bool) (y : own.Seen) → y .header ≡ s .header → cond t y s .header ≡ s .header
+  either-header true y e = e
+  either-header false y e = refl
 
-  ended-header : (t : Bool) (r : own.Request) → (cond t (own.acked r s) s .header ≡ s .header) × (cond t (own.gaveUp r s) s .header ≡ s .header)
-  ended-header true own.none = (refl, refl)
-  ended-header true own.underway = (refl, refl)
-  ended-header true own.acknowledged = (refl, refl)
-  ended-header true own.lost = (refl, refl)
-  ended-header false r = (refl, refl)
-
-  asked-header : (c : Terms) (x : Exchange) → s .request ≡ own.underway → (t : Bool) (r : Request) → cond t (ownTaken c x s r) s .header ≡ s .header
-  asked-header c x u true (primary q d) = ap (λ (r : own.Request). own.asked r s (acceptedAs c x q) .header) u
+  asked-header : (c : Terms) (x : Exchange) → OnItsWay (s .request) → (t : Bool) (r : Request) → cond t (ownTaken c x s r) s .header ≡ s .header
+  asked-header c x u true (primary q d) =
+      let shown : own.Request → Header = λ r. own.asked r s (acceptedAs c x q) .header in ⊎-elim (ap shown) (ap shown) u
   asked-header c x u true (reply k f d) = refl
   asked-header c x u true (free-own k) = refl
   asked-header c x u true (free-incoming k) = refl
   asked-header c x u false r = refl
 
-  header-kept : (c : Terms) (p : ℕ) (x : Exchange) (room : List ℕ) → s .request ≡ own.underway → (k : Call) → ownSees c p x room s k .header ≡ s .header
+  header-kept : (c : Terms) (p : ℕ) (x : Exchange) (room : List ℕ) → OnItsWay (s .request) → (k : Call) → ownSees c p x room s k .header ≡ s .header
   header-kept c p x room u (block h d) =
-      answered-header (foundAt (replyFor (x .own) (headerOf h)) p) (toldBy (judgeOf c x h d room .answer .note)) (headerOf h) (length d)
+      either-header (foundAt (replyFor (x .own) (headerOf h)) p) _ (answered-header s (toldBy (judgeOf c x h d room .answer .note)) (headerOf h) (length d))
   header-kept c p x room u tick = refl
-  header-kept c p x room u acknowledged = ended-header (sentFrom (x .sending) p) (s .request) .0
-  header-kept c p x room u failed = ended-header (sentFrom (x .sending) p) (s .request) .1
+  header-kept c p x room u put-out = either-header (sentFrom (x .sending) p) _ (sent-header s (s .request) .0)
+  header-kept c p x room u acknowledged = either-header (sentFrom (x .sending) p) _ (sent-header s (s .request) .1)
+  header-kept c p x room u failed = either-header (sentFrom (x .sending) p) _ (sent-header s (s .request) .2)
   header-kept c p x room u (request r) = asked-header c x u (takenAt (answerOf c x r room .answer .asked) p) r
 
 -- a message whose reply is on its way keeps its own
@@ -177,8 +172,8 @@ module _ (F : Type 0) (c : Terms) (x : Exchange) (room : List ℕ) (four : Fours
           let w = g .own p less in
           let v = own-on p less in
           let here : sentFrom (x .sending) p ≡ true = ap (λ (z : Sending). sentFrom z p) e ∙ eq-eqb p p refl in
-          let before : w .0 .request ≡ own.underway = w .2 .1 here in
-          let after : v .0 .request ≡ own.underway = v .2 .1 (ap (λ (z : Sending). sentFrom z p) same ∙ here) in
+          let before : OnItsWay (w .0 .request) = w .2 .1 here in
+          let after : OnItsWay (v .0 .request) = v .2 .1 (ap (λ (z : Sending). sentFrom z p) same ∙ here) in
           request-shown c _ (v .1) (open-used _ (underway-open c p y (v .0) (v .1) after)) ∙ header-kept (w .0) c p x room before k
           ∙ sym (request-shown c _ (w .1) (open-used _ (underway-open c p x (w .0) (w .1) before)))
 
@@ -256,8 +251,9 @@ module _ (F : Type 0) (c : Terms) (x : Exchange) (room : List ℕ) (four : Fours
   asked (free-incoming k) (Taken p) e = stays (request (free-incoming k)) (accepted-releases .incoming c x k room p e .sending)
 
   posted-on : (k : Call) → Holds F (called c x room k .exchange) (postSees c x room s k)
-  posted-on (block h d) = stays (block h d) (sending-ends c x .judged h d room)
+  posted-on (block h d) = ⊎-elim (stays (block h d)) (λ w. over _ (w .now)) (sending-ends c x .judged h d room)
   posted-on tick = stays tick (sending-ends c x .ticked)
+  posted-on put-out = stays put-out (sending-ends c x .put-out)
   posted-on acknowledged = over _ (sending-ends c x .acknowledged)
   posted-on failed = over _ (sending-ends c x .failed)
   posted-on (request r) = asked r (answerOf c x r room .answer .asked) refl
@@ -280,7 +276,7 @@ carries-start c last = record {
   message = λ f t. absurd (false≢true t);
   ranged = refl;
   fits = λ f. f;
-  own = λ p less. (own.nothingSeen, watched-start side.own c p last, (λ e. absurd (none-apart e), λ e. absurd (false≢true e)));
+  own = λ p less. (own.nothingSeen, watched-start side.own c p last, (λ e. absurd (apart _ own.none refl refl e), λ e. absurd (false≢true e)));
   way = λ p less. (none, (ap way (any-fresh freshIncoming 4 p), refl));
 }
 
@@ -329,6 +325,7 @@ module _ (c : Terms) (x : Exchange) (room : List ℕ) (j : Joined) (s : Post) (e
       kept-out (judgeOf c x h d room .answer .note) j (joins x h j d)
       (joined-out j d (replyFor (x .own) b) (messageFor (x .incoming) b) (openAlike (x .incoming) b) (freeIncoming (x .incoming))) ∙ e
   text-on tick = e
+  text-on put-out = e
   text-on acknowledged = e
   text-on failed = e
   text-on (request r) =

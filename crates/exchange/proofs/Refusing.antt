@@ -62,9 +62,10 @@ sends (sending.Primary p n) = (λ t e. true≢false (ap sendingBy e), λ m. refl
 sends (sending.Reply p f n) = (λ t e. true≢false (ap sendingBy e), λ m. refl)
 
 -- 8
-own-is-free : (s : OwnStage) → freeBy (standingAt s) ≡ true ↔ (s ≡ own.Free)
+pub own-is-free : (s : OwnStage) → freeBy (standingAt s) ≡ true ↔ (s ≡ own.Free)
 own-is-free own.Free = (λ t. refl, λ e. refl)
 own-is-free own.Sending = (λ t. absurd (false≢true t), λ e. ap (λ (s : OwnStage). freeBy (standingAt s)) e)
+own-is-free own.PutOut = (λ t. absurd (false≢true t), λ e. ap (λ (s : OwnStage). freeBy (standingAt s)) e)
 own-is-free (own.Awaiting timer) = (λ t. absurd (false≢true t), λ e. ap (λ (s : OwnStage). freeBy (standingAt s)) e)
 own-is-free (own.Replying a) = (λ t. absurd (false≢true t), λ e. ap (λ (s : OwnStage). freeBy (standingAt s)) e)
 own-is-free (own.Done v r) = (λ t. absurd (false≢true t), λ e. ap (λ (s : OwnStage). freeBy (standingAt s)) e)
@@ -81,6 +82,7 @@ module _ (x : Exchange) (four : Fours x) (p : ℕ) where
   no-verdict-at : (s : OwnStage) → ownPlace x p .stage ≡ s → not (givenBy (standingAt s)) ≡ true → NoVerdict x p
   no-verdict-at own.Free e t = own-free e
   no-verdict-at own.Sending e t = without (ap standingAt e)
+  no-verdict-at own.PutOut e t = without (ap standingAt e)
   no-verdict-at (own.Awaiting timer) e t = without (ap standingAt e)
   no-verdict-at (own.Replying a) e t = without (ap standingAt e)
   no-verdict-at (own.Done v r) e t = absurd (false≢true t)

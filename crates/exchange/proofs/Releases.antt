@@ -34,6 +34,7 @@ never (request.free-incoming q) z p e = absurd (false≢true (sym e))
 pub never-frees : (z : Side) (p : ℕ) (k : exchange.Call) → asksRelease k ≡ false → frees k z p ≡ false
 never-frees z p (exchange.block h d) e = refl
 never-frees z p exchange.tick e = refl
+never-frees z p exchange.put-out e = refl
 never-frees z p exchange.acknowledged e = refl
 never-frees z p exchange.failed e = refl
 never-frees z p (exchange.request r) e = never r z p e
@@ -53,9 +54,11 @@ verdict-stays-at : (c : Terms) (h : List ℕ) (z : OwnStage) (e : own.Event c) �
 unfolding ownOffered
 verdict-stays-at c h stage.Free e g i = absurd (false≢true g)
 verdict-stays-at c h stage.Sending e g i = absurd (false≢true g)
+verdict-stays-at c h stage.PutOut e g i = absurd (false≢true g)
 verdict-stays-at c h (stage.Awaiting timer) e g i = absurd (false≢true g)
 verdict-stays-at c h (stage.Replying a) e g i = absurd (false≢true g)
 verdict-stays-at c h (stage.Done v r) (own.claim x) g i = refl
+verdict-stays-at c h (stage.Done v r) own.put-out g i = refl
 verdict-stays-at c h (stage.Done v r) own.sent g i = refl
 verdict-stays-at c h (stage.Done v r) own.failed g i = refl
 verdict-stays-at c h (stage.Done v r) own.tick g i = refl

@@ -3,6 +3,7 @@ use Prim.Native.Nat.{ℕ, _<_}
 use mathlib.Core.Path.{_≡_, refl, sym, ap, _∙_}
 use mathlib.Core.Bool.{true, false, cond, not, _&&_, false≢true, true≢false}
 use mathlib.Core.List.{List}
+use mathlib.Core.Logic.{_⊎_, ⊎-elim}
 use native.Mathlib.Omega.{arith}
 use lib.Dec.{eqb}
 use lib.ListN.{length, getD, set}
@@ -22,13 +23,14 @@ use Rattle.place.specs.declared.IncomingStage.{IncomingStage}
 use Rattle.place.specs.declared.IncomingStage.the-variants as arrival
 use Rattle.place.specs.declared.Incoming.{Incoming}
 use Rattle.table.proofs.Tables.{incoming-table}
-use Rattle.exchange.specs.Exchange.{incomingPlace, putOwn, putIncoming, withSending, savedNow}
+use Rattle.exchange.specs.Exchange.{incomingPlace, putOwn, putIncoming, withSending, sentFrom, putReplied, savedNow}
 use Rattle.exchange.specs.Tick.{tickOf}
-use Rattle.exchange.specs.Send.{endedOwn, endedReply, sentBy, failedBy}
+use Rattle.exchange.specs.Send.{putOutBy, endedOwn, endedReply, sentBy, failedBy}
 use Rattle.exchange.specs.Judge.{thrown, replyBlock, messageBlock, beginsAt, judgeOf}
 use Rattle.exchange.specs.Reading.{wanted, replyStageAt, incomingReading, stageBy, hasEnded}
 use Rattle.exchange.specs.Request.{sendingBy, isSending, notReady, refusedBy, refused, claimedAt, replyAccepted, Request, answerOf}
 use Rattle.exchange.specs.Rules.{Fours}
+use Rattle.exchange.specs.BeingSent.{Withdrawn}
 use Rattle.exchange.specs.History as exchange
 use Rattle.exchange.specs.Watching.{takenAt, replyFrom}
 use Rattle.exchange.specs.Underway.{Way, none, onway, sent, failed, endWay, wayAt, way, isOnway, wayOf, ReplyRead, wayTaken, replySees, ReplyAt, ReplyWatchedOn, ReplyWatched}
@@ -143,6 +145,12 @@ nothing-replied p sending.Nothing n = refl
 nothing-replied p (sending.Primary q k) n = refl
 nothing-replied p (sending.Reply q f k) n = absurd (true≢false n)
 
+-- a primary is no reply of ours
+primary-replied : (p : ℕ) (q : Sending) (k : ℕ) → sentFrom q k ≡ true → replyFrom q p ≡ false
+primary-replied p sending.Nothing k e = refl
+primary-replied p (sending.Primary q n) k e = refl
+primary-replied p (sending.Reply q f n) k e = absurd (false≢true e)
+
 module _ (c : Terms) (x : Exchange) (room : List ℕ) (four : Fours x) (p : ℕ) (within : p < 4) (s : Way) (w : ReplyAt p x s) where
   -- where nothing is being sent, no reply is on its way
   idle : isSending x ≡ false → isOnway s ≡ false
@@ -157,7 +165,7 @@ module _ (c : Terms) (x : Exchange) (room : List ℕ) (four : Fours x) (p : ℕ)
   put-same q i e = put-step q i s (λ z. e ∙ ap (λ (k : ℕ). way (incomingPlace x k)) z ∙ w .0) ∙ same-either (eqb q p) s
 
   block-way : (h d : List ℕ) → way (incomingPlace (judgeOf c x h d room .answer .exchange) p) ≡ s
-  unfolding thrown replyBlock messageBlock beginsAt savedNow putOwn putIncoming
+  unfolding thrown replyBlock messageBlock beginsAt savedNow putOwn putReplied putIncoming withSending
   block-way h d =
       by-judge c x h d room (λ j. way (incomingPlace (j .answer .exchange) p) ≡ s) (λ e. w .0) (λ e u. w .0) (λ q e r. w .0)
       (λ q e r m. put-same q _ (offered-way (incomingPlace x q .header) (incomingPlace x q .stage) (headerOf h) (length d)))
@@ -166,6 +174,18 @@ module _ (c : Terms) (x : Exchange) (room : List ℕ) (four : Fours x) (p : ℕ)
   tick-way : way (incomingPlace (tickOf c x .exchange) p) ≡ s
   unfolding tickOf
   tick-way = ap way (incoming-table (x .incoming) c (four .incoming) .1 .each p within) ∙ ticked-way c (incomingPlace x p .header) (incomingPlace x p .stage) ∙ w .0
+
+  -- a block of ours that is out is of no account to an incoming place
+  put-out-way : (q : Sending) → way (incomingPlace (putOutBy q x) p) ≡ s
+  unfolding putOwn
+  put-out-way sending.Nothing = w .0
+  put-out-way (sending.Primary q n) = w .0
+  put-out-way (sending.Reply q f n) = w .0
+
+  -- what a block ends is no reply
+  reply-goes-on : (z : Sending) → (z ≡ x .sending) ⊎ Withdrawn (x .sending) z → replyFrom z p ≡ replyFrom (x .sending) p
+  reply-goes-on z =
+      ⊎-elim (ap (λ (q : Sending). replyFrom q p)) (λ g. ap (λ (q : Sending). replyFrom q p) (g .now) ∙ sym (primary-replied p (x .sending) (g .place) (g .was)))
 
   -- the reply on its way is this place's
   on-its-way-here : (q f n : ℕ) → x .sending ≡ sending.Reply q f n → q ≡ p → isOnway (way (incomingPlace x q)) ≡ true
@@ -210,8 +230,9 @@ module _ (c : Terms) (x : Exchange) (room : List ℕ) (four : Fours x) (p : ℕ)
       (put-step q _ none (λ z. r .1), released q (r .0)))
 
   right-after : (k : exchange.Call) → ReplyAt p (exchange.called c x room k .exchange) (replySees c p x room s k)
-  right-after (exchange.block h d) = (block-way h d, w .1 ∙ sym (ap (λ (q : Sending). replyFrom q p) (sending-ends c x .judged h d room)))
+  right-after (exchange.block h d) = (block-way h d, w .1 ∙ sym (reply-goes-on _ (sending-ends c x .judged h d room)))
   right-after exchange.tick = (tick-way, w .1 ∙ sym (ap (λ (q : Sending). replyFrom q p) (sending-ends c x .ticked)))
+  right-after exchange.put-out = (put-out-way (x .sending), w .1 ∙ sym (ap (λ (q : Sending). replyFrom q p) (sending-ends c x .put-out)))
   right-after exchange.acknowledged = (acknowledged-way (x .sending) refl, over sent _ (sending-ends c x .acknowledged) refl)
   right-after exchange.failed = (lost-way (x .sending) refl, over failed _ (sending-ends c x .failed) refl)
   right-after (exchange.request r) = request-right r

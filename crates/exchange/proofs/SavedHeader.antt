@@ -13,11 +13,11 @@ use Rattle.wire.proofs.Choice.{chosen, either-of}
 use Rattle.place.specs.Message.{Routed}
 use Rattle.exchange.specs.Exchange.{freshExchange, putOwn, putIncoming, withSending}
 use Rattle.exchange.specs.Tick.{tickOf}
-use Rattle.exchange.specs.Send.{endedOwn, endedReply, sentBy, failedBy}
+use Rattle.exchange.specs.Send.{putOutBy, endedOwn, endedReply, sentBy, failedBy}
 use Rattle.exchange.specs.Request.{refused, refusedBy, claimedAt, replyAccepted, Request, answerOf}
 use Rattle.exchange.specs.Judge.{judgeOf}
 use Rattle.exchange.specs.Rules.{Fours, Duplicate, Ruled, duplicate, noted}
-use Rattle.exchange.specs.History.{Call, block, tick, acknowledged, failed, request, Track, track, atStart}
+use Rattle.exchange.specs.History.{Call, block, tick, put-out, acknowledged, failed, request, Track, track, atStart}
 use Rattle.exchange.specs.SavedHeader.{SavedSeen, none, ten, savedBy, savedSees, savedWatch, IsSaved, SavedOn, RepeatsOn, SavedExactly}
 use Rattle.exchange.specs.declared.Saved.{Saved}
 use Rattle.exchange.specs.declared.Sending.{Sending}
@@ -29,6 +29,13 @@ use Rattle.exchange.proofs.Cases.{by-request}
 use Rattle.exchange.proofs.Runs.{reached-more, reached-fresh, four-places, sound-fresh, sound-reached, run-any}
 
 -- ---- one call
+
+-- its last block was put out
+put-out-saves : (z : Sending) (x : Exchange) → putOutBy z x .saved ≡ x .saved
+unfolding putOwn
+put-out-saves sending.Nothing x = refl
+put-out-saves (sending.Primary p n) x = refl
+put-out-saves (sending.Reply p f n) x = refl
 
 -- however the message's sending ended
 pub sent-saves : (z : Sending) (x : Exchange) → sentBy z x .exchange .saved ≡ x .saved
@@ -79,6 +86,7 @@ saved-on c x room s (block h d) w =
     (⊎-elim (λ e. stays s _ _ (ap (λ (y : Exchange). y .saved) (l .misrouted e .state)) w) (λ e. stays s _ _ (ap (λ (y : Exchange). y .saved) (l .duplicate e .state)) w))
     (λ n. let e = l .saves (λ a. n (inl a)) (λ a. n (inr a)) in (ap (λ (v : Saved). v .any) e, ap (λ (v : Saved). v .header) e))
 saved-on c x room s tick w = stays s _ _ (tick-saves c x) w
+saved-on c x room s put-out w = stays s _ _ (put-out-saves (x .sending) x) w
 saved-on c x room s acknowledged w = stays s _ _ (sent-saves (x .sending) x) w
 saved-on c x room s failed w = stays s _ _ (failed-saves (x .sending) x) w
 saved-on c x room s (request r) w = stays s _ _ (request-saves c x room r) w

@@ -29,6 +29,7 @@ use Rattle.exchange.proofs.Flagging.{stays}
 own-still : (c : Terms) (o : Own) (s : OwnStage) → timedAt s ≡ false → own-specs.tickAt c s o ≡ o
 own-still c o own.Free e = refl
 own-still c o own.Sending e = refl
+own-still c o own.PutOut e = refl
 own-still c o (own.Awaiting timer) e = absurd (false≢true (sym e))
 own-still c o (own.Replying a) e = absurd (false≢true (sym e))
 own-still c o (own.Done v r) e = refl

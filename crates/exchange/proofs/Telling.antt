@@ -10,10 +10,10 @@ use Rattle.wire.specs.Message.{messageLimit}
 use Rattle.header.specs.Header.{headerOf}
 use Rattle.header.specs.declared.header.Header.{Header}
 use Rattle.settings.specs.declared.terms.Terms.{Terms}
-use Rattle.wire.proofs.Choice.{either, chosen, both}
+use Rattle.wire.proofs.Choice.{chosen, both}
 use Rattle.place.specs.Fate.{beginsPrimary, fateOf}
 use Rattle.place.specs.Message.{LacksData}
-use Rattle.place.specs.Own.{ownTick, ownOffered, ownSent, ownFailed}
+use Rattle.place.specs.Own.{primaryOf, standingAt, givenBy, ownHasVerdict, firstOut, ownPutOut, ownSent, ownFailed, ownTick, ownOffered}
 use Rattle.place.specs.Incoming.{freshIncoming, incomingIsComplete, incomingIsOpen, incomingIsFree, openAt, freeAt, completeAt, incomingTick, openTick, openBy, incomingLength, incomingTakes, keptBy, begunBy, endedAt}
 use Rattle.place.proofs.Arrivals.{by-waited}
 use Rattle.place.proofs.Messages.{by-fate}
@@ -24,26 +24,28 @@ use Rattle.place.specs.declared.End.the-variants as end
 use Rattle.place.specs.declared.IncomingStage.{IncomingStage}
 use Rattle.place.specs.declared.IncomingStage.the-variants as arrival
 use Rattle.place.specs.declared.Incoming.{Incoming}
+use Rattle.place.specs.declared.OwnStage.{OwnStage}
+use Rattle.place.specs.declared.OwnStage.the-variants as stage
+use Rattle.place.specs.declared.Own.{Own}
 use Rattle.table.specs.Own.{ownAt, replyFor}
 use Rattle.table.specs.Incoming.{incomingAt, messageFor}
 use Rattle.table.specs.declared.Found.the-variants.{Nowhere}
 use Rattle.table.proofs.Finding.{message-lowest, open-alike-lowest}
-use Rattle.exchange.specs.Flags.{noMarks, noFlags, incomingFlags}
-use Rattle.exchange.specs.Exchange.{ownPlace, incomingPlace, gotVerdict, putOwn, putIncoming, withSending, savedNow}
+use Rattle.exchange.specs.Flags.{noMarks, noFlags, verdictFlag, incomingFlags}
+use Rattle.exchange.specs.Exchange.{ownPlace, incomingPlace, gotVerdict, putOwn, putIncoming, withSending, putReplied, savedNow}
 use Rattle.exchange.specs.Tick.{wasDropped, tickOf}
-use Rattle.exchange.specs.Send.{endedOwn, endedReply, sentBy, failedBy}
-use Rattle.exchange.specs.Judge.{Judging, thrown, isMisrouted, isDuplicate, lastBy, spoiltBy, replyBlock, messageBlock, beginsAt, judgeOf}
+use Rattle.exchange.specs.Send.{putOutBy, endedOwn, endedReply, sentBy, failedBy}
+use Rattle.exchange.specs.Judge.{Judging, thrown, lastBy, spoiltBy, replyBlock, messageBlock, beginsAt, judgeOf}
 use Rattle.exchange.specs.Rules.{Fours}
 use Rattle.exchange.specs.Theorems.{flagAt, becameGiven, becameComplete, Dropped, ThrowsOut, noneThrown, Flagged, FlagsExactly}
 use Rattle.exchange.proofs.Finding.{found}
-use Rattle.exchange.proofs.Judging.{duplicate, begins, reply-here, message-here}
+use Rattle.exchange.proofs.Judging.{Passed, is-new, begins, reply-here, message-here}
 use Rattle.exchange.proofs.Leaving.{place-taken}
-use Rattle.exchange.proofs.Keeping.{no-mark}
+use Rattle.exchange.proofs.Keeping.{no-mark, no-verdict-flag}
 use Rattle.exchange.proofs.Cases.{Takes, by-judge}
 use Rattle.exchange.proofs.Joining.{offered-kept}
 use Rattle.exchange.proofs.Areas.{taken-place, begun-at}
-use Rattle.exchange.proofs.OneCall.{right-way}
-use Rattle.exchange.proofs.Flagging.{unmarked, marked-here, Forced, unflagged, own-flagged, incoming-flagged}
+use Rattle.exchange.proofs.Flagging.{stays, unmarked, marked-here, Forced, unflagged, own-flagged, incoming-flagged}
 use Rattle.exchange.specs.declared.Note.{Note}
 use Rattle.exchange.specs.declared.Note.the-variants.{Misrouted, Duplicate}
 use Rattle.exchange.specs.declared.Sending.{Sending}
@@ -108,15 +110,15 @@ kept-fits b n =
 
 module _ (c : Terms) (x : Exchange) (four : Fours x) (h d : List ℕ) where
   -- a new primary that takes the place of an open message throws that one out
-  throws-out : (p : ℕ) (gone : Bool) (f : Fate) → isMisrouted c (headerOf h) ≡ false → isDuplicate c x h ≡ false → replyFor (x .own) (headerOf h) ≡ Nowhere
+  throws-out : (p : ℕ) (gone : Bool) (f : Fate) → Passed c x h → replyFor (x .own) (headerOf h) ≡ Nowhere
       → messageFor (x .incoming) (headerOf h) ≡ Nowhere → beginsPrimary (headerOf h) ≡ true → fateOf (headerOf h) 0 (length d) ≡ f
       → spoiltBy f ≡ false → Takes x (headerOf h) p gone → gone ≡ true → ThrowsOut c x h d p
-  throws-out p true f q u r m o e s t g =
+  throws-out p true f q r m o e s t g =
       let fit = kept-fits (headerOf h) (length d) (ap spoiltBy e ∙ s) in
       let low = open-alike-lowest (x .incoming) (headerOf h) (four .incoming) .at p .0 t in
       record {
         primary = record {
-          new = record { routed = right-way c (headerOf h) q; no-duplicate = λ z. false≢true (sym u ∙ duplicate c x h .1 z) };
+          new = is-new c x h q;
           no-reply = λ z. false≢true (sym (ap found r) ∙ reply-here x four (headerOf h) .1 z);
           no-message = λ z. false≢true (sym (ap found m) ∙ message-here x four (headerOf h) .1 z);
           begins = begins (headerOf h) .0 o;
@@ -125,7 +127,7 @@ module _ (c : Terms) (x : Exchange) (four : Fours x) (h d : List ℕ) where
         };
         alike = record { within = low .0; so = low .1; none-below = low .2 };
       }
-  throws-out p false f q u r m o e s t g = absurd (false≢true g)
+  throws-out p false f q r m o e s t g = absurd (false≢true g)
 
   -- and the place is flagged
   out-flagged : (room : List ℕ) → Forced (ThrowsOut c x h d) (judgeOf c x h d room .answer .flags)
@@ -139,14 +141,9 @@ module _ (c : Terms) (x : Exchange) (four : Fours x) (h d : List ℕ) where
   unfolding thrown
   thrown-after n room = unflagged x x (ThrowsOut c x h d) refl refl
 
-  -- a block that is not new
-  old-after : (room : List ℕ) → isDuplicate c x h ≡ true → After (judgeOf c x h d room)
-  unfolding judgeOf
-  old-after room u = rw u (chosen After (isMisrouted c (headerOf h)) _ _ (λ e. thrown-after Misrouted room) (λ e. thrown-after Duplicate room))
-
-  new-after : (room : List ℕ) → isDuplicate c x h ≡ false → After (judgeOf c x h d room)
-  unfolding thrown replyBlock messageBlock beginsAt savedNow putOwn putIncoming
-  new-after room u =
+  judged-after : (room : List ℕ) → After (judgeOf c x h d room)
+  unfolding thrown replyBlock messageBlock beginsAt savedNow putOwn putReplied putIncoming withSending
+  judged-after room =
       let b = headerOf h in
       let T = ThrowsOut c x h d in
       by-judge c x h d room After (λ e. thrown-after Misrouted room) (λ e u. thrown-after Duplicate room)
@@ -170,11 +167,11 @@ module _ (c : Terms) (x : Exchange) (four : Fours x) (h d : List ℕ) where
       Forced T raised → Flagged x y T raised)
       (w .1)
       (incoming-flagged x _ T p _ _ gone (four .incoming) refl refl (begun-complete i (open-incomplete (i .stage) (w .1)) b (fateOf b 0 (length d)) (ap spoiltBy e ∙ s))
-      (λ z. absurd (begun-there i b (fateOf b 0 (length d)) (ap spoiltBy e ∙ s) z)) (λ g. inr (throws-out p gone f q u r m o e s t g)))))
+      (λ z. absurd (begun-there i b (fateOf b 0 (length d)) (ap spoiltBy e ∙ s) z)) (λ g. inr (throws-out p gone f q r m o e s t g)))))
       (λ n t r m. unflagged x _ T refl refl)
 
   judged-flags : (room : List ℕ) → Flagged x (judgeOf c x h d room .answer .exchange) (ThrowsOut c x h d) (judgeOf c x h d room .answer .flags)
-  judged-flags room = either (isDuplicate c x h) (λ t. After (judgeOf c x h d room)) (old-after room) (new-after room) (out-flagged room)
+  judged-flags room = judged-after room (out-flagged room)
 
 -- ---- a tick
 
@@ -214,7 +211,21 @@ tick-flags c x =
           );
     }
 
--- ---- the end of a send
+-- ---- a block of ours that is out, and the end of a send
+
+-- no verdict comes of a block that is put out
+put-out-given : (h : List ℕ) (z : OwnStage) → ownHasVerdict (ownPutOut (record { header = h; stage = z })) ≡ givenBy (standingAt z)
+unfolding firstOut
+put-out-given h stage.Free = refl
+put-out-given h stage.Sending = chosen (λ (o : Own). ownHasVerdict o ≡ false) (primaryOf (record { header = h; stage = stage.Sending }) .w) _ _ (λ e. refl) (λ e. refl)
+put-out-given h stage.PutOut = refl
+put-out-given h (stage.Awaiting timer) = refl
+put-out-given h (stage.Replying a) = refl
+put-out-given h (stage.Done v r) = refl
+
+none-got : (o : Own) → gotVerdict o (ownPutOut o) ≡ false
+unfolding gotVerdict
+none-got o = rw (put-out-given (o .header) (o .stage)) (stays (ownHasVerdict o))
 
 -- a reply that ends completes no message and drops none
 ended-incomplete : (z : End) (h : Header) (s : IncomingStage) → becameComplete (record { header = h; stage = s }) (endedAt z s (record { header = h; stage = s })) ≡ false
@@ -241,6 +252,18 @@ module _ (x : Exchange) (own-four : length (x .own) ≡ 4) (incoming-four : leng
       (incoming-flagged x _ noneThrown p (endedAt z (i .stage) i) false false incoming-four refl refl (sym (ended-incomplete z (i .header) (i .stage)))
       (λ d. absurd (ended-there z (i .header) (i .stage) d)) (λ e. absurd (false≢true e)) (λ p k t. absurd t))
 
+  out-flags : (p : ℕ) (y : Exchange) → y .own ≡ set (x .own) p (ownPutOut (ownPlace x p)) → x .incoming ≡ y .incoming → Flagged x y noneThrown noFlags
+  out-flags p y put same =
+      let o = ownPlace x p in
+      subst (Flagged x y noneThrown) (ap (verdictFlag p) (none-got o) ∙ no-verdict-flag p)
+      (own-flagged x y noneThrown p (ownPutOut o) own-four put same (λ p k t. absurd t))
+
+  put-out-flags : (q : Sending) → Flagged x (putOutBy q x) noneThrown noFlags
+  unfolding putOwn
+  put-out-flags sending.Nothing = unflagged x x noneThrown refl refl (λ p k t. absurd t)
+  put-out-flags (sending.Primary p n) = out-flags p _ refl refl
+  put-out-flags (sending.Reply p f n) = unflagged x x noneThrown refl refl (λ p k t. absurd t)
+
   sent-flags : (q : Sending) → Flagged x (sentBy q x .exchange) noneThrown (sentBy q x .flags)
   unfolding endedOwn endedReply putOwn withSending
   sent-flags sending.Nothing = unflagged x x noneThrown refl refl (λ p k t. absurd t)
@@ -258,6 +281,7 @@ flags-exactly c x own-four incoming-four =
     record {
       judged = judged-flags c x (record { own = own-four; incoming = incoming-four });
       ticked = tick-flags c x;
+      put-out = put-out-flags x own-four incoming-four (x .sending);
       sent = sent-flags x own-four incoming-four (x .sending);
       failed = failed-flags x own-four incoming-four (x .sending);
     }

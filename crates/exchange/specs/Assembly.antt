@@ -4,7 +4,7 @@
 -- once an incoming message is complete, its area begins with the data of the kept blocks joined"). Each proof is in `proofs/`.
 use Prim.Native.Nat.{ℕ, zero, suc, _+_, _-_, _%_, _≤_, _<_}
 use mathlib.Core.Path.{_≡_}
-use mathlib.Core.Bool.{true, false}
+use mathlib.Core.Bool.{Bool, true, false}
 use mathlib.Core.List.{List, [], _∷_, _++_}
 use mathlib.Core.Logic.{_≢_}
 use lib.ListN.{length, replicate}
@@ -20,14 +20,15 @@ use Rattle.room.specs.declared.Message.the-variants as message
 use Rattle.place.specs.Message.{Routed}
 use Rattle.place.specs.Own.{primaryOf, replyOf}
 use Rattle.place.specs.OwnTheorems.{Answers, Declines}
-use Rattle.place.specs.declared.OwnStage.the-variants.{Awaiting}
+use Rattle.place.specs.declared.OwnStage.{OwnStage}
+use Rattle.place.specs.declared.OwnStage.the-variants.{Free, Sending, PutOut, Awaiting, Replying, Done}
 use Rattle.place.specs.declared.Verdict.{Verdict}
 use Rattle.place.specs.declared.Verdict.the-variants.{Sent, Answered, Declined, Other, Broken, NoReply, SendFailed}
 use Rattle.place.specs.declared.Standing.the-variants.{Given}
 use Rattle.exchange.specs.Note.{noteNumber}
 use Rattle.exchange.specs.Flags.{noFlags, verdictFlag, incomingFlags}
-use Rattle.exchange.specs.Exchange.{ownPlace, incomingPlace}
-use Rattle.exchange.specs.Tick.{tickOf, ownTimed}
+use Rattle.exchange.specs.Exchange.{ownPlace, incomingPlace, sentFrom}
+use Rattle.exchange.specs.Tick.{tickOf}
 use Rattle.exchange.specs.Send.{replyTo}
 use Rattle.exchange.specs.Judge.{Judging, judgeOf}
 use Rattle.exchange.specs.Reading.{wanted, ownReading, incomingReading}
@@ -35,6 +36,7 @@ use Rattle.exchange.specs.Rules.{Fours, Duplicate, AlikeHere, FreeAt, Fr
 use Rattle.exchange.specs.History.{Track}
 use Rattle.exchange.specs.Theorems.{Reached}
 use Rattle.exchange.specs.declared.Flags.{Flags}
+use Rattle.exchange.specs.declared.Sending.the-variants.{Nothing}
 use Rattle.exchange.specs.declared.Exchange.{Exchange}
 use Rattle.exchange.specs.declared.OwnReading.the-variants as own
 use Rattle.exchange.specs.declared.IncomingReading.the-variants as incoming
@@ -151,13 +153,28 @@ AssemblyOfCut =
 
 -- ---- a reply
 
--- Own place p awaits the reply to a primary with header g, T3 at `timer`, and reply d with header h is for this place alone.
-pub record Awaits (c : Terms) (x : Exchange) (p : ℕ) (g : Header) (timer : ℕ) (h : Header) (d : List ℕ) : Type 0 where
+-- A reply is awaited, and still is n ticks later: T3 runs, and does not run out by then; or the last block of its primary is out and not
+-- acknowledged, and no timer runs.
+pub data AwaitedFor (c : Terms) (n : ℕ) : OwnStage → Type 0 where
+  acked : (timer : ℕ) → timer + n ≤ c .t3 .0 → AwaitedFor c n (Awaiting timer)
+  out : AwaitedFor c n PutOut
+
+-- a reply is awaited, or blocks of it are kept
+abbrev pub expectsAt : OwnStage → Bool
+expectsAt Free = false
+expectsAt Sending = false
+expectsAt PutOut = true
+expectsAt (Awaiting timer) = true
+expectsAt (Replying a) = true
+expectsAt (Done v r) = false
+
+-- Own place p awaits the reply to a primary with header g, n ticks from now, and reply d with header h is for this place alone.
+pub record Awaits (c : Terms) (x : Exchange) (p : ℕ) (g : Header) (n : ℕ) (h : Header) (d : List ℕ) : Type 0 where
   pub within : p < 4
   pub primary : primaryOf (ownPlace x p) ≡ g
-  pub stage : ownPlace x p .stage ≡ Awaiting timer
-  -- T3 or T4 runs at no other place whose primary has the reply's system bytes
-  pub alone : (q : ℕ) → q < 4 → q ≢ p → ownTimed (ownPlace x q) ≡ true → primaryOf (ownPlace x q) .system ≢ h .system
+  pub stage : AwaitedFor c n (ownPlace x p .stage)
+  -- none is awaited, and of none are blocks kept, at another place whose primary has the reply's system bytes
+  pub alone : (q : ℕ) → q < 4 → q ≢ p → expectsAt (ownPlace x q .stage) ≡ true → primaryOf (ownPlace x q) .system ≢ h .system
   -- its first block is no duplicate of the block before it
   pub new : Duplicate c x (headerIn h d 1) → ⊥
 
@@ -172,10 +189,11 @@ pub record ReplyAssembled (c : Terms) (pauses : ℕ → ℕ) (v : Verdict) (x : 
   pub verdict : ownReading (r .exchange) p ≡ own.Place g (Given v) (replyOf h (length d))
   -- its area begins with the same bytes
   pub bytes : front (r .room) (message.Reply p) (length d) ≡ d
-  -- every other place, and what is being sent, is as the ticks alone leave it
+  -- every other place is as the ticks alone leave it, and so is what is being sent, if that is not the primary; the primary is sent no more
   pub others : (q : ℕ) → q ≢ p → ownPlace (r .exchange) q ≡ ownPlace (ticksAlone c pauses d x) q
   pub incomings : (q : ℕ) → incomingPlace (r .exchange) q ≡ incomingPlace (ticksAlone c pauses d x) q
-  pub sending : r .exchange .sending ≡ x .sending
+  pub sending : sentFrom (x .sending) p ≡ false → r .exchange .sending ≡ x .sending
+  pub withdrawn : sentFrom (x .sending) p ≡ true → r .exchange .sending ≡ Nothing
   -- what is saved is the header of its last block
   pub saved : r .exchange .saved ≡ record { any = true; header = headerIn h d (blockCount (length d)) }
 
@@ -196,13 +214,14 @@ Earns g h NoReply = ⊥
 Earns g h SendFailed = ⊥
 
 -- For every awaited reply of 0 to 4,096 bytes, the blocks that are cut from it, judged in order by any transactions, complete it with the
--- same bytes, W, stream and function and give its verdict, whether the duplicate check is on or off, and however many ticks pass before
--- each block, as long as T3 does not run out before the first, nor T4 before a later one.
+-- same bytes, W, stream and function and give its verdict, whether the primary's last block was acknowledged or is only out, whether the
+-- duplicate check is on or off, and however many ticks pass before each block, as long as T3, if it runs, does not run out before the
+-- first, nor T4 before a later one.
 abbrev pub AssemblyOfReply : Type 0
 AssemblyOfReply =
-    (c : Terms) (pauses : ℕ → ℕ) (x : Exchange) (room : List ℕ) (p timer : ℕ) (g h : Header) (d : List ℕ) (v : Verdict)
+    (c : Terms) (pauses : ℕ → ℕ) (x : Exchange) (room : List ℕ) (p : ℕ) (g h : Header) (d : List ℕ) (v : Verdict)
     → Fours x → length room ≡ 36864 → InRange h → h .function % 2 ≡ 0 → Routed c h → IsReply g h → Earns g h v → length d ≤ messageLimit
-    → Awaits c x p g timer h d → timer + pauses 1 ≤ c .t3 .0 → WithinT4 c pauses d
+    → Awaits c x p g (pauses 1) h d → WithinT4 c pauses d
     → ReplyAssembled c pauses v x p g h d (received c pauses (receiverOf x room) h d (blockCount (length d)))
 
 -- A reply of ours is such a reply: of the function one higher than its primary's it answers, of function 0 it declines.

@@ -3,11 +3,13 @@
 use Prim.Native.Nat.{ℕ}
 use mathlib.Core.Path.{_≡_}
 use mathlib.Core.Bool.{true, false}
+use mathlib.Core.Logic.{_⊎_}
 use mathlib.Core.List.{List}
 use lib.ListN.{length}
 use Rattle.settings.specs.declared.terms.Terms.{Terms}
+use Rattle.exchange.specs.Exchange.{sentFrom}
 use Rattle.exchange.specs.Tick.{tickOf}
-use Rattle.exchange.specs.Send.{sentOf, failedOf}
+use Rattle.exchange.specs.Send.{putOutOf, sentOf, failedOf}
 use Rattle.exchange.specs.Judge.{judgeOf}
 use Rattle.exchange.specs.Request.{isSending, Request, primary, reply, free-own, free-incoming, answerOf, lends}
 use Rattle.exchange.specs.declared.Sending.{Sending}
@@ -47,10 +49,22 @@ RequestSends = (c : Terms) (x : Exchange) (r : Request) (room : List ℕ) → Se
 
 -- ---- the other calls
 
--- judging and time leave it; where it was acknowledged, or failed, no message is being sent: in every state
+-- it was the primary of an own place, and is being sent no more
+pub record Withdrawn (before after : Sending) : Type 0 where
+  pub place : ℕ
+  pub was : sentFrom before place ≡ true
+  pub now : after ≡ sending.Nothing
+
+-- judging leaves it, but where the block is of the reply to it (`Leaves`, specs/Rules.antt, has which block that is), then no message is
+-- being sent; time leaves it, and so does putting its last block out; where it was acknowledged, or failed, no message is being sent: in
+-- every state
 pub record SendingGoes (c : Terms) (x : Exchange) : Type 0 where
-  pub judged : (h d room : List ℕ) → judgeOf c x h d room .answer .exchange .sending ≡ x .sending
+  pub judged :
+      (h d room : List ℕ)
+      → (judgeOf c x h d room .answer .exchange .sending ≡ x .sending)
+      ⊎ Withdrawn (x .sending) (judgeOf c x h d room .answer .exchange .sending)
   pub ticked : tickOf c x .exchange .sending ≡ x .sending
+  pub put-out : putOutOf x .sending ≡ x .sending
   pub acknowledged : sentOf x .exchange .sending ≡ sending.Nothing
   pub failed : failedOf x .exchange .sending ≡ sending.Nothing
 

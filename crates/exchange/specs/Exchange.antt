@@ -2,6 +2,7 @@
 use Prim.Native.Nat.{ℕ}
 use mathlib.Core.Bool.{Bool, true, false, cond, not, _&&_}
 use mathlib.Core.List.{List}
+use lib.Dec.{eqb}
 use lib.ListN.{replicate}
 use Rattle.place.specs.Own.{freshOwn, ownHasVerdict}
 use Rattle.place.specs.Incoming.{freshIncoming}
@@ -54,6 +55,21 @@ putIncoming x p i = record { own = x .own; incoming = incomingPut (x .incoming) 
 -- another message is being sent, or none
 unfoldable pub withSending : Exchange → Sending → Exchange
 withSending x s = record { own = x .own; incoming = x .incoming; saved = x .saved; numbers = x .numbers; sending = s }
+
+-- the message being sent is the primary of own place p
+abbrev pub sentFrom : Sending → ℕ → Bool
+sentFrom sending.Nothing p = false
+sentFrom (sending.Primary q n) p = eqb q p
+sentFrom (sending.Reply q f n) p = false
+
+-- what is being sent once a block of the reply in own place p has come: its primary no more (02, request 1: "the held block is withdrawn and
+-- counts as sent")
+unfoldable pub sentBehind : Sending → ℕ → Sending
+sentBehind z p = cond (sentFrom z p) sending.Nothing z
+
+-- an own place is put anew by a block of its reply
+unfoldable pub putReplied : Exchange → ℕ → Own → Exchange
+putReplied x p o = withSending (putOwn x p o) (sentBehind (x .sending) p)
 
 -- rule 2: "Otherwise the header is saved, even if the block is thrown out below."
 unfoldable pub savedNow : Exchange → List ℕ → Exchange

@@ -12,7 +12,7 @@ use Rattle.table.specs.declared.Found.{Found}
 use Rattle.table.specs.declared.Found.the-variants.{At, Nowhere}
 use Rattle.exchange.specs.Exchange.{freshExchange}
 use Rattle.exchange.specs.Tick.{tickOf}
-use Rattle.exchange.specs.Send.{sentOf, failedOf}
+use Rattle.exchange.specs.Send.{putOutOf, sentOf, failedOf}
 use Rattle.exchange.specs.Judge.{Judging, judgeOf}
 use Rattle.exchange.specs.Request.{Requesting, Request, primary, reply, free-own, free-incoming, answerOf}
 use Rattle.exchange.specs.declared.Note.{Note}
@@ -21,11 +21,11 @@ use Rattle.exchange.specs.declared.Exchange.{Exchange}
 use Rattle.exchange.specs.declared.Asked.{Asked}
 use Rattle.exchange.specs.declared.Asked.the-variants.{Taken, Refused}
 
--- A block went up, with its ten header bytes and its data; 0.1 s passed; the last block of the message being sent was acknowledged;
--- a block of it failed; something is asked for.
+-- A block went up, with its ten header bytes and its data; 0.1 s passed; the last block of the message being sent was put out, at the first
+-- attempt or again; it was acknowledged; a block of the message failed; something is asked for.
 pub data Call : Type 0 where
   block : (h d : List ℕ) → Call
-  tick acknowledged failed : Call
+  tick put-out acknowledged failed : Call
   request : Request → Call
 
 -- what is held between calls: the state, and the room as the last call left it
@@ -46,6 +46,7 @@ asked a = held (a .answer .exchange) (a .room)
 abbrev pub called : Terms → Exchange → List ℕ → Call → Held
 called c x room (block h d) = judged (judgeOf c x h d room)
 called c x room tick = held (tickOf c x .exchange) room
+called c x room put-out = held (putOutOf x) room
 called c x room acknowledged = held (sentOf x .exchange) room
 called c x room failed = held (failedOf x .exchange) room
 called c x room (request r) = asked (answerOf c x r room)
@@ -108,6 +109,7 @@ joinsAsked r (Refused n) s = s
 abbrev pub sees : Terms → Exchange → List ℕ → Joined → Call → Joined
 sees c x room s (block h d) = ifKept (judgeOf c x h d room .answer .note) s (joins x h s d)
 sees c x room s tick = s
+sees c x room s put-out = s
 sees c x room s acknowledged = s
 sees c x room s failed = s
 sees c x room s (request r) = joinsAsked r (answerOf c x r room .answer .asked) s

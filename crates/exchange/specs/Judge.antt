@@ -24,7 +24,7 @@ use Rattle.table.specs.declared.Found.{Found}
 use Rattle.table.specs.declared.Found.the-variants.{At, Nowhere}
 use Rattle.exchange.specs.Note.{noteBy}
 use Rattle.exchange.specs.Flags.{noFlags, verdictFlag, incomingFlags}
-use Rattle.exchange.specs.Exchange.{ownPlace, incomingPlace, gotVerdict, putOwn, putIncoming, savedNow}
+use Rattle.exchange.specs.Exchange.{ownPlace, incomingPlace, gotVerdict, putReplied, putIncoming, savedNow}
 use Rattle.exchange.specs.declared.Note.{Note}
 use Rattle.exchange.specs.declared.Note.the-variants.{Kept, Misrouted, Duplicate, Stray, NoPlace, TooLong, Empty}
 use Rattle.exchange.specs.declared.Saved.{Saved}
@@ -93,7 +93,7 @@ spoiltBy (fate.More n) = false
 abbrev pub repliedAs : Exchange → ℕ → Own → Own → Fate → List ℕ → List ℕ → Judging
 repliedAs x p before after f d room =
     judging
-    (record { exchange = putOwn x p after; note = noteBy f; flags = verdictFlag p (gotVerdict before after) })
+    (record { exchange = putReplied x p after; note = noteBy f; flags = verdictFlag p (gotVerdict before after) })
     (keepBy f room (message.Reply p) (ownKept before .length) d)
 
 unfoldable pub replyBlock : Exchange → ℕ → Header → List ℕ → List ℕ → Judging

@@ -1,20 +1,24 @@
 -- The two transaction numbers that the state keeps, "the last given" and "that of the latest own transaction to get a verdict" (01,
 -- "Messages"), over every list of calls from a fresh start. An onlooker keeps them too: by what is called and answered, and by what a
--- user reads of the own places before and after each call (`specs/Reading.antt`). Each proof is in `proofs/Numbering.antt`.
+-- user reads of the own places before and after each call (`specs/Reading.antt`). And what one call does to either, whatever an onlooker
+-- keeps. Each proof is in `proofs/Numbering.antt`.
 use Prim.Native.Nat.{ℕ, _%_, _≤_, _<_}
 use mathlib.Core.Path.{_≡_}
 use mathlib.Core.Bool.{Bool, true, false, cond, not, _&&_}
 use mathlib.Core.List.{List}
 use mathlib.Core.Logic.{_≢_}
 use lib.ListN.{length}
+use Rattle.header.specs.declared.header.Header.{Header}
 use Rattle.settings.specs.declared.terms.Terms.{Terms}
 use Rattle.place.specs.declared.Verdict.{Verdict}
 use Rattle.place.specs.declared.Verdict.the-variants.{Sent, Answered, Declined, Other, Broken, NoReply, SendFailed}
 use Rattle.place.specs.declared.Standing.the-variants.{Free, Open, Given}
+use Rattle.place.specs.declared.Reply.{Reply}
 use Rattle.exchange.specs.Reading.{ownReading}
 use Rattle.exchange.specs.Request.{openOf, Request, primary, reply, free-own, free-incoming, answerOf}
 use Rattle.exchange.specs.Rules.{Fours}
-use Rattle.exchange.specs.History.{Call, block, tick, acknowledged, failed, request, called, track, atStart}
+use Rattle.exchange.specs.Refusals.{numberGiven}
+use Rattle.exchange.specs.History.{Call, block, tick, put-out, acknowledged, failed, request, called, track, atStart}
 use Rattle.exchange.specs.Watching.{watch}
 use Rattle.exchange.specs.declared.Exchange.{Exchange}
 use Rattle.exchange.specs.declared.OwnReading.{OwnReading}
@@ -94,6 +98,7 @@ lastAsked r (Refused n) after last = last
 abbrev pub lastSeen : Terms → Exchange → List ℕ → ℕ → Call → ℕ
 lastSeen c x room last (block h d) = last
 lastSeen c x room last tick = last
+lastSeen c x room last put-out = last
 lastSeen c x room last acknowledged = last
 lastSeen c x room last failed = last
 lastSeen c x room last (request r) = lastAsked r (answerOf c x r room .answer .asked) (ownReading (answerOf c x r room .answer .exchange)) last
@@ -131,6 +136,59 @@ abbrev pub NumbersKept : Type 0
 NumbersKept =
     (c : Terms) (last : ℕ) (room : List ℕ) → last ≤ 65535 → length room ≡ 36864 → (ks : List Call)
     → NumbersAre (track c (atStart last room) ks .exchange) (numbersWatch c last room ks)
+
+-- ---- one call: plain words, that no onlooker's rule stands for
+
+-- call k is a primary, and it is accepted
+pub record GivesNumber (c : Terms) (x : Exchange) (room : List ℕ) (k : Call) : Type 0 where
+  pub header : Primary
+  pub rest : List ℕ
+  pub place : ℕ
+  pub so : k ≡ request (primary header rest)
+  pub taken : answerOf c x (primary header rest) room .answer .asked ≡ Taken place
+
+-- "the next after the last given": a primary that is accepted is given the next number, and that one is the last given then. No other
+-- call gives a number, or takes one back: no block, tick, last block put out, ACK or failure, and no other request.
+pub record LastMoves (Gives : Type 0) (before after : Exchange) : Type 0 where
+  pub given : Gives → after .numbers .last ≡ numberGiven before
+  pub stays : (Gives → ⊥) → after .numbers .last ≡ before .numbers .last
+
+abbrev pub LastGoes : Type 0
+LastGoes =
+    (c : Terms) (x : Exchange) (room : List ℕ) → Fours x → (k : Call) → LastMoves (GivesNumber c x room k) x (called c x room k .exchange)
+
+-- an own place got its verdict: it shows none before the call, and one after it
+pub record Got (before after : OwnReading) : Type 0 where
+  pub header : Header
+  pub verdict : Verdict
+  pub reply : Reply
+  pub none-before : (h : Header) (v : Verdict) (r : Reply) → before ≢ Place h (Given v) r
+  pub now : after ≡ Place header (Given verdict) reply
+
+-- not by the end of its primary's sending
+pub record NotByLine (v : Verdict) : Type 0 where
+  pub not-sent : v ≢ Sent
+  pub not-failed : v ≢ SendFailed
+
+-- "that of the latest own transaction to get a verdict"
+pub record LatestMoves (before after : Exchange) : Type 0 where
+  -- the place that got one, if no other did
+  pub alone :
+      (p : ℕ) → p < 4 → Got (ownReading before p) (ownReading after p)
+      → ((q : ℕ) → q < 4 → q ≢ p → Got (ownReading before q) (ownReading after q) → ⊥)
+      → after .numbers .latest ≡ numberShown (ownReading after p)
+  -- of several the highest's: "On a tick the line goes first, then own places 0 to 3". So one whose send fails on that tick, whatever its
+  -- place, comes before those whose timers run out.
+  pub highest :
+      (p : ℕ) → p < 4 → (g : Got (ownReading before p) (ownReading after p)) → NotByLine (g .verdict)
+      → ((q : ℕ) → p < q → q < 4 → (h : Got (ownReading before q) (ownReading after q)) → NotByLine (h .verdict) → ⊥)
+      → after .numbers .latest ≡ numberShown (ownReading after p)
+  -- as it was, if none did
+  pub stays :
+      ((p : ℕ) → p < 4 → Got (ownReading before p) (ownReading after p) → ⊥) → after .numbers .latest ≡ before .numbers .latest
+
+abbrev pub LatestGoes : Type 0
+LatestGoes = (c : Terms) (x : Exchange) (room : List ℕ) → Fours x → (k : Call) → LatestMoves x (called c x room k .exchange)
 
 -- ---- E4 6.8.1
 

@@ -1,5 +1,5 @@
 -- What a user reads of a place, exactly when: that there is none, and that a reply to its message is owed. Of any state of the
--- transactions, and of any place number. The proofs are in `proofs/Places.antt`.
+-- transactions, and of any place number. And what a start leaves. The proofs are in `proofs/Places.antt`.
 use Prim.Native.Nat.{ℕ, _<_}
 use mathlib.Core.Path.{_≡_}
 use mathlib.Core.Bool.{true, false}
@@ -9,10 +9,11 @@ use Rattle.place.specs.Incoming.{primaryOf}
 use Rattle.place.specs.IncomingHistory.{nothing, shows}
 use Rattle.place.specs.IncomingTheorems.{isComplete}
 use Rattle.place.specs.declared.Standing.the-variants as standing
-use Rattle.exchange.specs.Exchange.{ownPlace, incomingPlace}
+use Rattle.exchange.specs.Exchange.{freshExchange, ownPlace, incomingPlace}
 use Rattle.exchange.specs.Reading.{ownReading, incomingReading, stageBy}
 use Rattle.exchange.specs.Rules.{Fours}
 use Rattle.exchange.specs.Underway.{none, way}
+use Rattle.exchange.specs.declared.Sending.the-variants as sending
 use Rattle.exchange.specs.declared.Exchange.{Exchange}
 use Rattle.exchange.specs.declared.OwnReading.the-variants as reading
 use Rattle.exchange.specs.declared.IncomingReading.the-variants as arrival
@@ -46,3 +47,22 @@ pub record OwedRead (x : Exchange) (p : ℕ) : Type 0 where
 -- A reply is shown as owed exactly then, and as not owed. Of one that was accepted `ReplyRead` (`specs/Underway.antt`) says what is shown.
 abbrev pub OwedExactly : Type 0
 OwedExactly = (x : Exchange) (p : ℕ) → OwedRead x p
+
+-- ---- a start
+
+pub record Fresh (told : ℕ) (x : Exchange) : Type 0 where
+  -- there are four places of either kind, and none is in use
+  pub fours : Fours x
+  pub own : (p : ℕ) → ownReading x p ≡ reading.NoPlace
+  pub incoming : (p : ℕ) → incomingReading x p ≡ arrival.NoPlace
+  -- rule 2: "the saved one (none at a start)"
+  pub none-saved : x .saved .any ≡ false
+  -- no message is being sent
+  pub sending : x .sending ≡ sending.Nothing
+  -- "last transaction number | 0 to 65535; 0 if none is kept": the number that the start is told of is the last given
+  pub last : x .numbers .last ≡ told
+  -- no own transaction has got a verdict: 0 is no number
+  pub latest : x .numbers .latest ≡ 0
+
+abbrev pub FreshExactly : Type 0
+FreshExactly = (last : ℕ) → Fresh last (freshExchange last)

@@ -14,7 +14,7 @@ use Rattle.exchange.specs.Send.{outgoingOf}
 use Rattle.exchange.specs.Request.{Request, primary, reply, free-own, free-incoming, isSending, answerOf}
 use Rattle.exchange.specs.Reading.{ownReading, incomingReading, headerBy}
 use Rattle.exchange.specs.Numbers.{numberShown}
-use Rattle.exchange.specs.History.{Call, block, tick, acknowledged, failed, request, track, atStart}
+use Rattle.exchange.specs.History.{Call, block, tick, put-out, acknowledged, failed, request, track, atStart}
 use Rattle.exchange.specs.Theorems.{lengthSent}
 use Rattle.exchange.specs.Watching.{watch}
 use Rattle.exchange.specs.declared.Exchange.{Exchange}
@@ -84,6 +84,7 @@ postAsked c before after r (Refused n) s = s
 abbrev pub postSees : Terms → Exchange → List ℕ → Post → Call → Post
 postSees c x room s (block h d) = s
 postSees c x room s tick = s
+postSees c x room s put-out = s
 postSees c x room s acknowledged = s
 postSees c x room s failed = s
 postSees c x room s (request r) =

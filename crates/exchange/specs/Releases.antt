@@ -14,7 +14,7 @@ use Rattle.place.specs.IncomingTheorems.{isComplete}
 use Rattle.place.specs.declared.Incoming.{Incoming}
 use Rattle.exchange.specs.Exchange.{ownPlace, incomingPlace}
 use Rattle.exchange.specs.Request.{Request, primary, reply, free-own, free-incoming, lends}
-use Rattle.exchange.specs.History.{Call, block, tick, acknowledged, failed, request, called}
+use Rattle.exchange.specs.History.{Call, block, tick, put-out, acknowledged, failed, request, called}
 use Rattle.exchange.specs.declared.Exchange.{Exchange}
 
 -- own places, and incoming ones
@@ -35,6 +35,7 @@ releases (free-incoming q) incoming p = eqb q p
 abbrev pub frees : Call → Side → ℕ → Bool
 frees (block h d) z p = false
 frees tick z p = false
+frees put-out z p = false
 frees acknowledged z p = false
 frees failed z p = false
 frees (request r) z p = releases r z p
@@ -49,6 +50,7 @@ isRelease (free-incoming q) = true
 abbrev pub asksRelease : Call → Bool
 asksRelease (block h d) = false
 asksRelease tick = false
+asksRelease put-out = false
 asksRelease acknowledged = false
 asksRelease failed = false
 asksRelease (request r) = isRelease r

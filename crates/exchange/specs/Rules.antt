@@ -14,25 +14,30 @@ use Rattle.room.specs.Room.{keptIn}
 use Rattle.room.specs.declared.Message.the-variants as message
 use Rattle.place.specs.Arriving.{kindOf}
 use Rattle.place.specs.Message.{Routed, StartsMessage, Continuing, LacksData}
-use Rattle.place.specs.Own.{primaryOf as ownPrimary, stageAt as ownStageAt, replyOf, ended, ownKept, verdictOf}
-use Rattle.place.specs.Incoming.{primaryOf as incomingPrimary, stageAt as incomingStageAt, incomingLength}
+use Rattle.place.specs.Own.{primaryOf as ownPrimary, replyOf, ownKept, verdictOf}
+use Rattle.place.specs.Incoming.{primaryOf as incomingPrimary, incomingLength}
 use Rattle.place.specs.declared.Verdict.the-variants.{Broken}
 use Rattle.place.specs.declared.Arriving.{Arriving}
+use Rattle.place.specs.declared.Reply.{Reply}
+use Rattle.place.specs.declared.OwnStage.{OwnStage}
 use Rattle.place.specs.declared.OwnStage.the-variants as own
 use Rattle.place.specs.declared.Own.{Own}
+use Rattle.place.specs.declared.IncomingStage.{IncomingStage}
 use Rattle.place.specs.declared.IncomingStage.the-variants as incoming
 use Rattle.place.specs.declared.Incoming.{Incoming}
-use Rattle.table.specs.Own.{ownAt, replyFor}
-use Rattle.table.specs.Incoming.{incomingAt, messageFor}
+use Rattle.table.specs.Number.{numberOf}
+use Rattle.table.specs.Own.{ownAt, ownPut, replyFor}
+use Rattle.table.specs.Incoming.{incomingAt, incomingPut, messageFor}
 use Rattle.table.specs.Theorems.{Alike}
 use Rattle.table.specs.declared.Found.{Found}
 use Rattle.table.specs.declared.Found.the-variants.{At, Nowhere}
 use Rattle.exchange.specs.Note.{noteNumber}
 use Rattle.exchange.specs.Flags.{noFlags, verdictFlag, incomingFlags}
 use Rattle.exchange.specs.declared.Flags.{Flags}
-use Rattle.exchange.specs.Exchange.{ownPlace, incomingPlace, putOwn, putIncoming, savedNow}
+use Rattle.exchange.specs.Exchange.{ownPlace, incomingPlace, sentFrom}
 use Rattle.exchange.specs.Judge.{Judging, judging, judgeOf}
 use Rattle.exchange.specs.declared.Note.the-variants.{Kept}
+use Rattle.exchange.specs.declared.Sending.the-variants.{Nothing}
 use Rattle.exchange.specs.declared.Exchange.{Exchange}
 
 -- ---- four places
@@ -69,10 +74,15 @@ pub record New (c : Terms) (x : Exchange) (h : List ℕ) : Type 0 where
 
 -- ---- 3
 
+-- A reply is awaited: "from the call that first puts out the bytes of its last block" (02, request 1), and from the ACK on, while T3 runs.
+pub data IsAwaited (o : Own) : Type 0 where
+  out : o .stage ≡ own.PutOut → IsAwaited o
+  acked : (timer : ℕ) → o .stage ≡ own.Awaiting timer → IsAwaited o
+
 -- a block of the reply to an own primary
 pub data OfReply (o : Own) (b : Header) : Type 0 where
   -- "the first block of an awaited reply (same system bytes, even function, number 1, or 0 with E = 1)"
-  first : (timer : ℕ) → o .stage ≡ own.Awaiting timer → b .system ≡ ownPrimary o .system → b .function % 2 ≡ 0 → StartsMessage b → OfReply o b
+  first : IsAwaited o → b .system ≡ ownPrimary o .system → b .function % 2 ≡ 0 → StartsMessage b → OfReply o b
   -- "Continues an open message (device ID, system bytes, W, stream, function and next number)"
   further : (a : Arriving) → o .stage ≡ own.Replying a → Continuing (ownPrimary o .device) (ownPrimary o .system) (a .next) (a .kind) b → OfReply o b
 
@@ -176,11 +186,28 @@ pub record Comes (j : Judging) (y : Exchange) (raised : Flags) (left : List ℕ)
   pub flags : j .answer .flags ≡ raised
   pub bytes : j .room ≡ left
 
+-- the header is saved, and nothing else is changed
+abbrev pub onlySaved : Exchange → List ℕ → Exchange
+onlySaved x h = record {
+  own = x .own;
+  incoming = x .incoming;
+  saved = record { any = true; header = h };
+  numbers = x .numbers;
+  sending = x .sending;
+}
+
 -- the state is this one, no flag is raised, and no byte of the room is touched
 abbrev pub Untouched : Exchange → List ℕ → Judging → Type 0
 Untouched y room j = Comes j y noFlags room
 
-pub record Leaves (x : Exchange) (h room : List ℕ) (j : Judging) : Type 0 where
+-- the block is of the reply to the message that is being sent
+pub record OfReplyToSent (c : Terms) (x : Exchange) (h : List ℕ) : Type 0 where
+  pub new : New c x h
+  pub place : ℕ
+  pub of-it : LowestAt (λ q. OfReply (ownPlace x q) (headerOf h)) place
+  pub sent : sentFrom (x .sending) place ≡ true
+
+pub record Leaves (c : Terms) (x : Exchange) (h room : List ℕ) (j : Judging) : Type 0 where
   -- 1: "note 22, saved header kept"
   pub misrouted : noted j ≡ 22 → Untouched x room j
   -- 2: "note 23; no timer, place or byte of room changes."
@@ -188,16 +215,50 @@ pub record Leaves (x : Exchange) (h room : List ℕ) (j : Judging) : Type 0 wher
   -- 2: "Otherwise the header is saved, even if the block is thrown out below."
   pub saves : noted j ≢ 22 → noted j ≢ 23 → j .answer .exchange .saved ≡ record { any = true; header = h }
   -- 3 and 6: nothing else changes
-  pub stray : noted j ≡ 24 → Untouched (savedNow x h) room j
-  pub no-place : noted j ≡ 25 → Untouched (savedNow x h) room j
+  pub stray : noted j ≡ 24 → Untouched (onlySaved x h) room j
+  pub no-place : noted j ≡ 25 → Untouched (onlySaved x h) room j
   -- no byte is kept of a block that is thrown out
   pub thrown-out : noted j ≢ 21 → j .room ≡ room
-  -- no number is given, and what is being sent goes on
+  -- no number is given
   pub last : j .answer .exchange .numbers .last ≡ x .numbers .last
-  pub sending : j .answer .exchange .sending ≡ x .sending
+  -- what is being sent goes on, unless the block is of the reply to it: then nothing is (02, request 1: "If the reply's first block is kept, or
+  -- breaks the reply, while that block is held, the held block is withdrawn and counts as sent")
+  pub sending : Fours x → (OfReplyToSent c x h → ⊥) → j .answer .exchange .sending ≡ x .sending
+  pub withdrawn : Fours x → OfReplyToSent c x h → j .answer .exchange .sending ≡ Nothing
 
 abbrev pub JudgeLeaves : Type 0
-JudgeLeaves = (c : Terms) (x : Exchange) (h d room : List ℕ) → Leaves x h room (judgeOf c x h d room)
+JudgeLeaves = (c : Terms) (x : Exchange) (h d room : List ℕ) → Leaves c x h room (judgeOf c x h d room)
+
+-- ---- the whole state behind a block with header bytes h that came to a place, field by field
+
+-- a message of the far end: incoming place p is i then, and the header is saved
+abbrev pub incomingBehind : Exchange → List ℕ → ℕ → Incoming → Exchange
+incomingBehind x h p i = record {
+  own = x .own;
+  incoming = incomingPut (x .incoming) p i;
+  saved = record { any = true; header = h };
+  numbers = x .numbers;
+  sending = x .sending;
+}
+
+-- a message that has its place goes on there, at this stage
+abbrev pub messageAt : Exchange → ℕ → IncomingStage → Incoming
+messageAt x p s = record { header = incomingPlace x p .header; stage = s }
+
+-- The reply in own place p, which is at stage s then, with the request's header as it was; `latest` is the number "of the latest own
+-- transaction to get a verdict" then; and its primary is being sent no more.
+abbrev pub ownBehind : Exchange → List ℕ → ℕ → OwnStage → ℕ → Exchange
+ownBehind x h p s latest = record {
+  own = ownPut (x .own) p (record { header = ownPlace x p .header; stage = s });
+  incoming = x .incoming;
+  saved = record { any = true; header = h };
+  numbers = record { last = x .numbers .last; latest = latest };
+  sending = cond (sentFrom (x .sending) p) Nothing (x .sending);
+}
+
+-- no block of a reply is kept
+abbrev pub noneKept : Reply
+noneKept = record { w = false; stream = 0; function = 0; length = 0 }
 
 -- ---- the place of a new primary
 
@@ -222,7 +283,7 @@ begunWith h n = record { header = h; stage = cond (h .e) (incoming.Complete n) (
 abbrev pub begunIn : Exchange → ℕ → List ℕ → Bool → List ℕ → List ℕ → Judging
 begunIn x p h gone d room =
     judging
-    (record { exchange = putIncoming (savedNow x h) p (begunWith (headerOf h) (length d)); note = Kept; flags = incomingFlags p (headerOf h .e) gone })
+    (record { exchange = incomingBehind x h p (begunWith (headerOf h) (length d)); note = Kept; flags = incomingFlags p (headerOf h .e) gone })
     (keptIn room (message.Incoming p) 0 d)
 
 pub record Takes (c : Terms) (x : Exchange) (h d room : List ℕ) : Type 0 where
@@ -250,18 +311,20 @@ pub record Fits (b : Header) (have : ℕ) (d : List ℕ) : Type 0 where
 -- the reply in own place p, of which `have` bytes are kept
 pub record ReplyGoes (x : Exchange) (h d room : List ℕ) (p have : ℕ) (j : Judging) : Type 0 where
   -- "An open message, or awaited reply, ends broken."
-  pub broken : Spoils (headerOf h) have d → Comes j (putOwn (savedNow x h) p (ended (ownPlace x p) Broken)) (verdictFlag p true) room
+  pub broken :
+      Spoils (headerOf h) have d
+      → Comes j (ownBehind x h p (own.Done Broken noneKept) (numberOf (ownPlace x p))) (verdictFlag p true) room
   -- with E = 1 the place gets its verdict
   pub complete :
       Fits (headerOf h) have d → headerOf h .e ≡ true
       → Comes j
-      (putOwn (savedNow x h) p (ownStageAt (ownPlace x p) (own.Done (verdictOf (ownPlace x p) (headerOf h)) (replyOf (headerOf h) (have + length d)))))
+      (ownBehind x h p (own.Done (verdictOf (ownPlace x p) (headerOf h)) (replyOf (headerOf h) (have + length d))) (numberOf (ownPlace x p)))
       (verdictFlag p true) (keptIn room (message.Reply p) have d)
   -- "With E = 0, T4 restarts."
   pub more :
       Fits (headerOf h) have d → headerOf h .e ≡ false
       → Comes j
-      (putOwn (savedNow x h) p (ownStageAt (ownPlace x p) (own.Replying (openFrom (headerOf h) (have + length d)))))
+      (ownBehind x h p (own.Replying (openFrom (headerOf h) (have + length d))) (x .numbers .latest))
       noFlags (keptIn room (message.Reply p) have d)
 
 abbrev pub ReplyBlock : Type 0
@@ -275,15 +338,15 @@ pub record MessageGoes (x : Exchange) (h d room : List ℕ) (p have : ℕ) (j : 
   -- "A broken incoming message frees its place."
   pub broken :
       Spoils (headerOf h) have d
-      → Comes j (putIncoming (savedNow x h) p (incomingStageAt (incomingPlace x p) incoming.Free)) (incomingFlags p false true) room
+      → Comes j (incomingBehind x h p (messageAt x p incoming.Free)) (incomingFlags p false true) room
   pub complete :
       Fits (headerOf h) have d → headerOf h .e ≡ true
-      → Comes j (putIncoming (savedNow x h) p (incomingStageAt (incomingPlace x p) (incoming.Complete (have + length d)))) (incomingFlags p true false)
+      → Comes j (incomingBehind x h p (messageAt x p (incoming.Complete (have + length d)))) (incomingFlags p true false)
       (keptIn room (message.Incoming p) have d)
   -- "With E = 0, T4 restarts."
   pub more :
       Fits (headerOf h) have d → headerOf h .e ≡ false
-      → Comes j (putIncoming (savedNow x h) p (incomingStageAt (incomingPlace x p) (incoming.Open (openFrom (headerOf h) (have + length d))))) noFlags
+      → Comes j (incomingBehind x h p (messageAt x p (incoming.Open (openFrom (headerOf h) (have + length d))))) noFlags
       (keptIn room (message.Incoming p) have d)
 
 abbrev pub MessageBlock : Type 0
@@ -296,4 +359,4 @@ MessageBlock =
 abbrev pub NoPlaceTaken : Type 0
 NoPlaceTaken =
     (c : Terms) (x : Exchange) (h d room : List ℕ) → Fours x → New c x h → (ReplyHere x (headerOf h) → ⊥) → (MessageHere x (headerOf h) → ⊥)
-    → Spoils (headerOf h) 0 d → Untouched (savedNow x h) room (judgeOf c x h d room)
+    → Spoils (headerOf h) 0 d → Untouched (onlySaved x h) room (judgeOf c x h d room)

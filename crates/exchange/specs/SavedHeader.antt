@@ -12,7 +12,7 @@ use Rattle.settings.specs.declared.terms.Terms.{Terms}
 use Rattle.place.specs.Message.{Routed}
 use Rattle.exchange.specs.Judge.{judgeOf}
 use Rattle.exchange.specs.Rules.{Fours, noted}
-use Rattle.exchange.specs.History.{Call, block, tick, acknowledged, failed, request, called, track, atStart}
+use Rattle.exchange.specs.History.{Call, block, tick, put-out, acknowledged, failed, request, called, track, atStart}
 use Rattle.exchange.specs.Watching.{watch}
 use Rattle.exchange.specs.declared.Saved.{Saved}
 use Rattle.exchange.specs.declared.Exchange.{Exchange}
@@ -29,10 +29,11 @@ pub data SavedSeen : Type 0 where
 abbrev pub savedBy : ℕ → SavedSeen → List ℕ → SavedSeen
 savedBy n s h = cond (eqb n 22 || eqb n 23) s (ten h)
 
--- only a block is saved: no time, no end of a send and no request touches what is
+-- only a block is saved: no time, no block of ours, no end of a send and no request touches what is
 abbrev pub savedSees : Terms → Exchange → List ℕ → SavedSeen → Call → SavedSeen
 savedSees c x room s (block h d) = savedBy (noted (judgeOf c x h d room)) s h
 savedSees c x room s tick = s
+savedSees c x room s put-out = s
 savedSees c x room s acknowledged = s
 savedSees c x room s failed = s
 savedSees c x room s (request r) = s

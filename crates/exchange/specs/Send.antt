@@ -2,7 +2,7 @@
 use Prim.Native.Nat.{ℕ}
 use mathlib.Core.Bool.{false, not}
 use Rattle.header.specs.declared.header.Header.{Header}
-use Rattle.place.specs.Own.{primaryOf as ownPrimary, ownSent, ownFailed}
+use Rattle.place.specs.Own.{primaryOf as ownPrimary, ownPutOut, ownSent, ownFailed}
 use Rattle.place.specs.Incoming.{primaryOf as incomingPrimary, incomingSent, incomingFailed}
 use Rattle.place.specs.declared.Own.{Own}
 use Rattle.place.specs.declared.Incoming.{Incoming}
@@ -35,6 +35,15 @@ outgoingAt (Reply p f n) x = outgoing.Message (replyTo (incomingPrimary (incomin
 
 abbrev pub outgoingOf : Exchange → Outgoing
 outgoingOf x = outgoingAt (x .sending) x
+
+abbrev pub putOutBy : Sending → Exchange → Exchange
+putOutBy Nothing x = x
+putOutBy (Primary p n) x = putOwn x p (ownPutOut (ownPlace x p))
+putOutBy (Reply p f n) x = x
+
+-- the last block of the message being sent is put out: a reply of ours awaits nothing. It goes on being sent, and no flag is raised.
+abbrev pub putOutOf : Exchange → Exchange
+putOutOf x = putOutBy (x .sending) x
 
 -- with no flag raised
 abbrev pub unflagged : Exchange → Changed

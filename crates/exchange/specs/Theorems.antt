@@ -22,9 +22,10 @@ use Rattle.place.specs.declared.OwnStage.{OwnStage}
 use Rattle.place.specs.declared.OwnStage.the-variants as stage
 use Rattle.place.specs.declared.Own.{Own}
 use Rattle.place.specs.declared.Incoming.{Incoming}
+use Rattle.exchange.specs.Flags.{noFlags}
 use Rattle.exchange.specs.Exchange.{ownPlace, incomingPlace}
 use Rattle.exchange.specs.Tick.{tickOf}
-use Rattle.exchange.specs.Send.{sentOf, failedOf}
+use Rattle.exchange.specs.Send.{putOutOf, sentOf, failedOf}
 use Rattle.exchange.specs.Judge.{judgeOf}
 use Rattle.exchange.specs.Request.{isSending}
 use Rattle.exchange.specs.Rules.{LowestAt, AlikeAt, NewPrimary}
@@ -54,6 +55,7 @@ pub record StartsWith (room : List ℕ) (m : Message) (n : ℕ) (bs : List ℕ) 
 abbrev pub hasReply : OwnStage → Bool
 hasReply stage.Free = false
 hasReply stage.Sending = false
+hasReply stage.PutOut = false
 hasReply (stage.Awaiting timer) = false
 hasReply (stage.Replying a) = true
 hasReply (stage.Done v r) = onReply v
@@ -121,7 +123,7 @@ pub record ThrowsOut (c : Terms) (x : Exchange) (h d : List ℕ) (p : ℕ) : Typ
   pub primary : NewPrimary c x h d
   pub alike : LowestAt (AlikeAt x (headerOf h)) p
 
--- in a tick, and where a send ends, there is no new primary
+-- in a tick, where a block is put out and where a send ends, there is no new primary
 abbrev pub noneThrown : ℕ → Type 0
 noneThrown p = ⊥
 
@@ -137,6 +139,8 @@ pub record Flagged (before after : Exchange) (ThrownOut : ℕ → Type 0) (flags
 pub record FlagsTell (c : Terms) (x : Exchange) : Type 0 where
   pub judged : (h d room : List ℕ) → Flagged x (judgeOf c x h d room .answer .exchange) (ThrowsOut c x h d) (judgeOf c x h d room .answer .flags)
   pub ticked : Flagged x (tickOf c x .exchange) noneThrown (tickOf c x .flags)
+  -- it answers none
+  pub put-out : Flagged x (putOutOf x) noneThrown noFlags
   pub sent : Flagged x (sentOf x .exchange) noneThrown (sentOf x .flags)
   pub failed : Flagged x (failedOf x .exchange) noneThrown (failedOf x .flags)
 

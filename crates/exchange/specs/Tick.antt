@@ -62,6 +62,7 @@ tickOf c x = record {
 abbrev pub timedAt : OwnStage → Bool
 timedAt own.Free = false
 timedAt own.Sending = false
+timedAt own.PutOut = false
 timedAt (own.Awaiting timer) = true
 timedAt (own.Replying a) = true
 timedAt (own.Done v r) = false

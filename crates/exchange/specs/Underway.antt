@@ -4,7 +4,7 @@ use Prim.Native.Nat.{ℕ, _<_}
 use mathlib.Core.Path.{_≡_}
 use mathlib.Core.Bool.{Bool, true, false, cond}
 use mathlib.Core.List.{List}
-use mathlib.Core.Logic.{_↔_}
+use mathlib.Core.Logic.{_↔_, _⊎_, _≢_}
 use lib.ListN.{length}
 use Rattle.settings.specs.declared.terms.Terms.{Terms}
 use Rattle.place.specs.OwnHistory as own
@@ -14,22 +14,26 @@ use Rattle.place.specs.declared.End.the-variants as end
 use Rattle.place.specs.declared.IncomingStage.{IncomingStage}
 use Rattle.place.specs.declared.IncomingStage.the-variants as stage
 use Rattle.place.specs.declared.Incoming.{Incoming}
-use Rattle.exchange.specs.Exchange.{incomingPlace}
+use Rattle.exchange.specs.Exchange.{incomingPlace, sentFrom}
 use Rattle.exchange.specs.Reading.{incomingReading, stageBy, hasEnded}
 use Rattle.exchange.specs.Request.{Request, primary, reply, free-own, free-incoming, answerOf}
-use Rattle.exchange.specs.Rules.{Fours}
+use Rattle.exchange.specs.Rules.{Fours, OfReplyToSent}
 use Rattle.exchange.specs.History.{Call, called, track, atStart}
 use Rattle.exchange.specs.History as exchange
-use Rattle.exchange.specs.Watching.{takenAt, sentFrom, replyFrom, ownSees, OwnAt, watch, ownWatch}
+use Rattle.exchange.specs.Watching.{takenAt, replyFrom, ownSees, OwnAt, watch, ownWatch}
 use Rattle.exchange.specs.declared.Exchange.{Exchange}
 use Rattle.exchange.specs.declared.ReplyStage.{ReplyStage}
 use Rattle.exchange.specs.declared.ReplyStage.the-variants as reading
 
 -- ---- a request
 
--- the onlooker of own place p has seen that a request is underway there, exactly while its primary is the message being sent
+-- its last block was put out, or not yet
+abbrev pub OnItsWay : own.Request → Type 0
+OnItsWay r = (r ≡ own.underway) ⊎ (r ≡ own.out)
+
+-- the onlooker of own place p has seen that a request is underway or out there, exactly while its primary is the message being sent
 abbrev pub Underway : ℕ → Exchange → own.Seen → Type 0
-Underway p x s = (s .request ≡ own.underway) ↔ (sentFrom (x .sending) p ≡ true)
+Underway p x s = OnItsWay (s .request) ↔ (sentFrom (x .sending) p ≡ true)
 
 -- where it is so, it is after any call more
 abbrev pub UnderwayOn : Type 0
@@ -42,6 +46,18 @@ abbrev pub UnderwayExactly : Type 0
 UnderwayExactly =
     (c : Terms) (last : ℕ) (room : List ℕ) → length room ≡ 36864 → (ks : List Call) (p : ℕ) → p < 4
     → Underway p (track c (atStart last room) ks .exchange) (ownWatch c p last room ks)
+
+-- What a block makes of a request that is out: "proved received by its reply" (02, request 1).
+pub record Proves (c : Terms) (x : Exchange) (room : List ℕ) (p : ℕ) (s : own.Seen) (h d : List ℕ) : Type 0 where
+  -- one of the reply to it, by which its primary, the message being sent, is sent no more (`Leaves`, specs/Rules.antt), proves it
+  pub proves : (w : OfReplyToSent c x h) → w .place ≡ p → (s .request ≡ own.out) × (ownSees c p x room s (exchange.block h d) .request ≡ own.proved)
+  -- and no other does
+  pub only : s .request ≢ own.proved → ownSees c p x room s (exchange.block h d) .request ≡ own.proved → (w : OfReplyToSent c x h) × (w .place ≡ p)
+
+abbrev pub ProvedExactly : Type 0
+ProvedExactly =
+    (c : Terms) (x : Exchange) (room : List ℕ) → Fours x → (p : ℕ) → p < 4 → (s : own.Seen) → OwnAt c p x s → Underway p x s
+    → (h d : List ℕ) → Proves c x room p s h d
 
 -- ---- our reply: "A reply of ours ends sent or failed in its incoming place."
 
@@ -97,6 +113,7 @@ wayTaken s (free-incoming q) = none
 abbrev pub replySees : Terms → ℕ → Exchange → List ℕ → Way → Call → Way
 replySees c p x room s (exchange.block h d) = s
 replySees c p x room s exchange.tick = s
+replySees c p x room s exchange.put-out = s
 replySees c p x room s exchange.acknowledged = cond (replyFrom (x .sending) p) sent s
 replySees c p x room s exchange.failed = cond (replyFrom (x .sending) p) failed s
 replySees c p x room s (exchange.request r) = cond (takenAt (answerOf c x r room .answer .asked) p) (wayTaken s r) s

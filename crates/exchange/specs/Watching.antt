@@ -20,10 +20,10 @@ use Rattle.table.specs.Incoming.{messageFor, openAlike, freeIncoming}
 use Rattle.table.specs.Number.{nextNumber}
 use Rattle.table.specs.declared.Found.{Found}
 use Rattle.table.specs.declared.Found.the-variants.{At, Nowhere}
-use Rattle.exchange.specs.Exchange.{ownPlace, incomingPlace}
+use Rattle.exchange.specs.Exchange.{ownPlace, incomingPlace, sentFrom}
 use Rattle.exchange.specs.Judge.{judgeOf}
 use Rattle.exchange.specs.Request.{primaryHeader, Request, primary, reply, free-own, free-incoming, answerOf}
-use Rattle.exchange.specs.History.{Call, block, tick, acknowledged, failed, request, called, Track, next, track, atStart}
+use Rattle.exchange.specs.History.{Call, block, tick, put-out, acknowledged, failed, request, called, Track, next, track, atStart}
 use Rattle.exchange.specs.declared.Note.{Note}
 use Rattle.exchange.specs.declared.Note.the-variants.{Kept, Misrouted, Duplicate, Stray, NoPlace, TooLong, Empty}
 use Rattle.exchange.specs.declared.Exchange.{Exchange}
@@ -56,13 +56,7 @@ abbrev pub takenAt : Asked → ℕ → Bool
 takenAt (Taken q) p = eqb q p
 takenAt (Refused r) p = false
 
--- the message being sent is the primary of own place p
-abbrev pub sentFrom : Sending → ℕ → Bool
-sentFrom sending.Nothing p = false
-sentFrom (sending.Primary q n) p = eqb q p
-sentFrom (sending.Reply q f n) p = false
-
--- it is the reply of incoming place p
+-- the message being sent is the reply of incoming place p; whether it is the primary of an own place: `sentFrom` (specs/Exchange.antt)
 abbrev pub replyFrom : Sending → ℕ → Bool
 replyFrom sending.Nothing p = false
 replyFrom (sending.Primary q n) p = false
@@ -81,13 +75,15 @@ ownTaken c x s (reply q f d) = s
 ownTaken c x s (free-own q) = own.at s own.none
 ownTaken c x s (free-incoming q) = s
 
--- a block of its reply was judged; 0.1 s passed; its primary's last block was acknowledged, a block of it failed; something was asked for
+-- a block of its reply was judged; 0.1 s passed; its primary's last block was put out, was acknowledged, a block of it failed; something was
+-- asked for
 abbrev pub ownSees : Terms → ℕ → Exchange → List ℕ → own.Seen → Call → own.Seen
 ownSees c p x room s (block h d) =
     cond (foundAt (replyFor (x .own) (headerOf h)) p)
     (own.answered (toldBy (judgeOf c x h d room .answer .note)) s (headerOf h) (length d)) s
 ownSees c p x room s tick =
     record { request = s .request; header = s .header; kept = s .kept; bytes = s .bytes; spoilt = s .spoilt; since = s .since + 1; quiet = s .quiet + 1 }
+ownSees c p x room s put-out = cond (sentFrom (x .sending) p) (own.wentOut (s .request) s) s
 ownSees c p x room s acknowledged = cond (sentFrom (x .sending) p) (own.acked (s .request) s) s
 ownSees c p x room s failed = cond (sentFrom (x .sending) p) (own.gaveUp (s .request) s) s
 ownSees c p x room s (request r) = cond (takenAt (answerOf c x r room .answer .asked) p) (ownTaken c x s r) s
@@ -124,6 +120,7 @@ incomingSees c p x room s (block h d) =
     (takenBy (openAlike (x .incoming) (headerOf h)) (freeIncoming (x .incoming))) p
     (toldBy (judgeOf c x h d room .answer .note)) s (headerOf h) (length d)
 incomingSees c p x room s tick = record { begun = s .begun; kept = s .kept; bytes = s .bytes; spoilt = s .spoilt; quiet = s .quiet + 1 }
+incomingSees c p x room s put-out = s
 incomingSees c p x room s acknowledged = s
 incomingSees c p x room s failed = s
 incomingSees c p x room s (request r) = cond (takenAt (answerOf c x r room .answer .asked) p) (incomingTaken s r) s

@@ -1,6 +1,7 @@
 // Transactions (E4 6.8, 7.3, 7.4; 01, "Messages"): which message a block belongs to, what becomes of it, and how each message of
-// ours ends. The line is not known here: the transactions are told that the message being sent was acknowledged or failed, are
-// handed the blocks that went up, ticks and requests, and answer with the next state, a note or a refusal, and flags.
+// ours ends. The line is not known here: the transactions are told that the last block of the message being sent was put out, was
+// acknowledged or failed, are handed the blocks that went up, ticks and requests, and answer with the next state, a note or a refusal,
+// and flags.
 //
 // The model: types here, definitions and statements in `specs/`, and the proofs about them. The functions are crate `clerk`.
 use header::Header;

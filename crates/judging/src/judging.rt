@@ -8,7 +8,7 @@ use desk::no_flags;
 use desk::note_of;
 use desk::own_place;
 use desk::put_incoming;
-use desk::put_own;
+use desk::put_replied;
 use desk::verdict_flag;
 use desk::with_saved;
 use exchange::Exchange;
@@ -134,7 +134,7 @@ fn reply_block(
     let after = own::offered(before, header, data.len());
     keep_by(fate, room, Message::Reply(place), reply.length, data);
     Judged {
-        exchange: put_own(exchange, place, after),
+        exchange: put_replied(exchange, place, after),
         note: note_of(fate),
         flags: verdict_flag(place, got_verdict(before, after)),
     }

@@ -17,6 +17,8 @@ use Rattle.life.proofs.own.reply.Reads as own-reply-reads
 use Rattle.life.proofs.own.reply.Kinds as own-reply-kinds
 use Rattle.life.proofs.own.claimed.Reads as own-claimed-reads
 use Rattle.life.proofs.own.claimed.Kinds as own-claimed-kinds
+use Rattle.life.proofs.own.put_out.Reads as own-put-out-reads
+use Rattle.life.proofs.own.put_out.Kinds as own-put-out-kinds
 use Rattle.life.proofs.own.sent.Reads as own-sent-reads
 use Rattle.life.proofs.own.sent.Kinds as own-sent-kinds
 use Rattle.life.proofs.own.failed.Reads as own-failed-reads
@@ -91,6 +93,9 @@ own-reply-determined κs a = (tt, λ x y s t p q. p ∙ sym q)
 
 pub own-claimed-determined : Determined 0 own-claimed-kinds.ps own-claimed-kinds.r own-claimed-reads.Asked own-claimed-reads.Post (λ κs r s. r)
 own-claimed-determined κs a = (tt, λ x y s t p q. p ∙ sym q)
+
+pub own-put-out-determined : Determined 0 own-put-out-kinds.ps own-put-out-kinds.r own-put-out-reads.Asked own-put-out-reads.Post (λ κs r s. r)
+own-put-out-determined κs a = (tt, λ x y s t p q. p ∙ sym q)
 
 pub own-sent-determined : Determined 0 own-sent-kinds.ps own-sent-kinds.r own-sent-reads.Asked own-sent-reads.Post (λ κs r s. r)
 own-sent-determined κs a = (tt, λ x y s t p q. p ∙ sym q)

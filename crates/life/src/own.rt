@@ -1,6 +1,6 @@
 // A place of an own transaction (E4 7.3): from the primary's acceptance to the release of its verdict.
 ghost use mathlib.Core.Path.{_≡_};
-ghost use Rattle.place.specs.Own.{acknowledged, awaitTick, continuesReply, freshOwn, noReply, ownClaimed, ownFailed, ownHasVerdict, ownIsFree, ownKept, ownOffered, ownReleased, ownSent, ownStanding, ownTakes, ownTick, primaryOf, repliedBy, replyFrom, replyOf, replyTick, stageAt, verdictOf};
+ghost use Rattle.place.specs.Own.{acknowledged, awaitTick, continuesReply, firstOut, freshOwn, noReply, ownClaimed, ownFailed, ownHasVerdict, ownIsFree, ownKept, ownOffered, ownPutOut, ownReleased, ownSent, ownStanding, ownTakes, ownTick, primaryOf, repliedBy, replyFrom, replyOf, replyTick, stageAt, verdictOf};
 use crate::arriving;
 use crate::fate::begins_reply;
 use crate::fate::fate_of;
@@ -107,6 +107,7 @@ pub fn standing(own: Own) -> Standing
     match stage {
         OwnStage::Free => Standing::Free,
         OwnStage::Sending => Standing::Open,
+        OwnStage::PutOut => Standing::Open,
         OwnStage::Awaiting { timer: _ } => Standing::Open,
         OwnStage::Replying(_) => Standing::Open,
         OwnStage::Done { verdict, reply: _ } => Standing::Given(verdict),
@@ -141,6 +142,7 @@ pub fn reply(own: Own) -> Reply
     match stage {
         OwnStage::Free => no_reply(),
         OwnStage::Sending => no_reply(),
+        OwnStage::PutOut => no_reply(),
         OwnStage::Awaiting { timer: _ } => no_reply(),
         OwnStage::Replying(arriving) => reply_from(arriving),
         OwnStage::Done { verdict: _, reply } => reply,
@@ -158,6 +160,7 @@ pub fn claimed(own: Own, header: [u8; 10]) -> Own
             stage: OwnStage::Sending,
         },
         OwnStage::Sending => own,
+        OwnStage::PutOut => own,
         OwnStage::Awaiting { timer: _ } => own,
         OwnStage::Replying(_) => own,
         OwnStage::Done {
@@ -167,7 +170,37 @@ pub fn claimed(own: Own, header: [u8; 10]) -> Own
     }
 }
 
-// "A reply is awaited, and T3 runs, from the ACK of the primary's last block"; with W = 0 it is sent, and that is all.
+// "A primary with W = 1 now awaits its reply from the call that first puts out the bytes of its last block" (02, request 1).
+fn first_out(own: Own) -> Own
+    ensures { λ r. ⌜ r ≡ firstOut own ⌝ }
+{
+    let primary = primary(own);
+    if primary.w {
+        at(own, OwnStage::PutOut)
+    } else {
+        own
+    }
+}
+
+// The bytes of the primary's last block leave, for the first time or again.
+pub fn put_out(own: Own) -> Own
+    ensures { λ r. ⌜ r ≡ ownPutOut own ⌝ }
+{
+    let stage = own.stage;
+    match stage {
+        OwnStage::Free => own,
+        OwnStage::Sending => first_out(own),
+        OwnStage::PutOut => own,
+        OwnStage::Awaiting { timer: _ } => own,
+        OwnStage::Replying(_) => own,
+        OwnStage::Done {
+            verdict: _,
+            reply: _,
+        } => own,
+    }
+}
+
+// "T3 runs, from the ACK of the primary's last block"; with W = 0 it is sent, and that is all.
 fn acknowledged(own: Own) -> Own
     ensures { λ r. ⌜ r ≡ acknowledged own ⌝ }
 {
@@ -187,6 +220,7 @@ pub fn sent(own: Own) -> Own
     match stage {
         OwnStage::Free => own,
         OwnStage::Sending => acknowledged(own),
+        OwnStage::PutOut => acknowledged(own),
         OwnStage::Awaiting { timer: _ } => own,
         OwnStage::Replying(_) => own,
         OwnStage::Done {
@@ -204,6 +238,7 @@ pub fn failed(own: Own) -> Own
     match stage {
         OwnStage::Free => own,
         OwnStage::Sending => ended(own, Verdict::SendFailed),
+        OwnStage::PutOut => ended(own, Verdict::SendFailed),
         OwnStage::Awaiting { timer: _ } => own,
         OwnStage::Replying(_) => own,
         OwnStage::Done {
@@ -239,6 +274,7 @@ pub fn tick(own: Own, terms: Terms) -> Own
     match stage {
         OwnStage::Free => own,
         OwnStage::Sending => own,
+        OwnStage::PutOut => own,
         OwnStage::Awaiting { timer } => await_tick(own, terms, timer),
         OwnStage::Replying(arriving) => reply_tick(own, terms, arriving),
         OwnStage::Done {
@@ -275,6 +311,7 @@ pub fn takes(own: Own, header: Header) -> bool
     match stage {
         OwnStage::Free => false,
         OwnStage::Sending => false,
+        OwnStage::PutOut => awaits(own, header),
         OwnStage::Awaiting { timer: _ } => awaits(own, header),
         OwnStage::Replying(arriving) => continues_reply(own, arriving, header),
         OwnStage::Done {
@@ -337,6 +374,7 @@ pub fn released(own: Own) -> Own
     match stage {
         OwnStage::Free => own,
         OwnStage::Sending => own,
+        OwnStage::PutOut => own,
         OwnStage::Awaiting { timer: _ } => own,
         OwnStage::Replying(_) => own,
         OwnStage::Done {

@@ -41,6 +41,7 @@ pub fn own_in_range(own: Own) -> bool
     match stage {
         OwnStage::Free => true,
         OwnStage::Sending => true,
+        OwnStage::PutOut => true,
         OwnStage::Awaiting { timer } => timer_in_range(timer),
         OwnStage::Replying(arriving) => arriving_in_range(arriving),
         OwnStage::Done { verdict: _, reply } => length_in_range(reply.length),

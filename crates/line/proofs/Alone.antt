@@ -1,11 +1,11 @@
--- What a step can tell: nothing where the whole block leaves, nor by settling; and what no tick tells. Assumes nothing.
+-- What a step can tell: that the block is put out where the whole block leaves, and nowhere else; nothing by settling; and what no tick tells. Assumes nothing.
 use Prim.Native.Nat.{ℕ}
-use mathlib.Core.Path.{_≡_, refl, subst}
+use mathlib.Core.Path.{_≡_, refl, sym, subst}
 use mathlib.Core.Bool.{Bool}
 use mathlib.Core.List.{List}
 use Rattle.line.specs.Line.{lineAt, sends}
 use Rattle.line.specs.History.{Call, byte, tick, drained, ask, withdraw, settle, called}
-use Rattle.line.specs.Theorems.{Quiet, BlockAlone, TicksTell}
+use Rattle.line.specs.Theorems.{TellsOnly, BlockAlone, TicksTell}
 use Rattle.line.proofs.Cases.{ByByte, by-byte, ByTick, by-tick, by-settle}
 use Rattle.line.specs.declared.phase.Phase.{Phase}
 use Rattle.line.specs.declared.phase.Phase.the-variants.{Idle, WaitEot, Draining, WaitAck, WaitLength, Body, Silence}
@@ -20,27 +20,36 @@ use Rattle.settings.specs.declared.limits.Limits.{Limits}
 
 -- ---- the whole block
 
+-- anything but that the block is put out
+abbrev Else : Told → Type 0
+Else told.Nothing = Unit {0}
+Else told.PutOut = ⊥
+Else told.Sent = Unit {0}
+Else told.Failed = Unit {0}
+Else (told.Up n) = Unit {0}
+
 abbrev With : Step → Out → Type 0
-With s out.Nothing = Unit {0}
-With s (out.Code x) = Unit {0}
-With s out.Block = Quiet s
+With s out.Nothing = Else (s .told)
+With s (out.Code x) = Else (s .told)
+With s out.Block = TellsOnly s told.PutOut
 
 abbrev Alone : Step → Type 0
 Alone s = With s (s .out)
 
--- a step that tells and remarks nothing, whatever it puts out
-with-any : (s : Step) (o : Out) → Quiet s → With s o
-with-any s out.Nothing q = tt
-with-any s (out.Code x) q = tt
-with-any s out.Block q = q
+-- a step that tells just that, and puts the whole block out
+puts-alone : (s : Step) → TellsOnly s told.PutOut → s .out ≡ out.Block → Alone s
+puts-alone s t o = subst (With s) (sym o) t
 
-quiet-alone : (s : Step) → s .told ≡ told.Nothing → s .remark ≡ remark.Nothing → Alone s
-quiet-alone s t r = with-any s (s .out) (record { told = t; remark = r })
+-- where that is told, it is the whole block that leaves
+told-with : (s : Step) (o : Out) → With s o → s .told ≡ told.PutOut → o ≡ out.Block
+told-with s out.Nothing w e = absurd (subst Else e w)
+told-with s (out.Code x) w e = absurd (subst Else e w)
+told-with s out.Block w e = refl
 
 module _ (c : Limits) (h : Bool) where
   byte-alone : (p : Phase) (b : ℕ) → ByByte Alone c h p b
   byte-alone Idle b = (tt, tt)
-  byte-alone (WaitEot timer tries) b = (quiet-alone (sends (lineAt h (WaitEot timer tries)) tries) refl refl, tt, λ n. tt)
+  byte-alone (WaitEot timer tries) b = (puts-alone (sends (lineAt h (WaitEot timer tries)) tries) (record { told = refl; remark = refl }) refl, tt, λ n. tt)
   byte-alone (Draining tries) b = tt
   byte-alone (WaitAck timer tries) b = (tt, tt, tt)
   byte-alone (WaitLength timer) b = (tt, tt)
@@ -68,13 +77,15 @@ pub block-alone : BlockAlone
 block-alone c l rs =
     record {
       block = λ k e. subst (With (called c l rs k .step)) e (alone c (l .held) (l .phase) rs k);
-      settled = by-settle Quiet (l .held) (l .phase) (record { told = refl; remark = refl }) (record { told = refl; remark = refl });
+      only-then = λ k e. told-with (called c l rs k .step) (called c l rs k .step .out) (alone c (l .held) (l .phase) rs k) e;
+      settled = by-settle (λ s. TellsOnly s told.Nothing) (l .held) (l .phase) (record { told = refl; remark = refl }) (record { told = refl; remark = refl });
     }
 
 -- ---- a tick
 
 abbrev Tells : Told → Type 0
 Tells told.Nothing = Unit {0}
+Tells told.PutOut = ⊥
 Tells told.Sent = ⊥
 Tells told.Failed = Unit {0}
 Tells (told.Up n) = ⊥
@@ -101,4 +112,4 @@ ticks c h (Silence timer fault) = ((tt, tt), (tt, tt))
 pub ticks-tell : TicksTell
 ticks-tell c l =
     let x = by-tick Ticks c (l .held) (l .phase) (ticks c (l .held) (l .phase)) in
-    record { not-sent = λ e. subst Tells e (x .0); not-up = λ n e. subst Tells e (x .0); no-way = λ e. subst Remarks e (x .1) }
+    record { not-out = λ e. subst Tells e (x .0); not-sent = λ e. subst Tells e (x .0); not-up = λ n e. subst Tells e (x .0); no-way = λ e. subst Remarks e (x .1) }

@@ -34,7 +34,7 @@ module _ (c : Limits) (h : Bool) where
   byte-turns : (p : Phase) (b : ℕ) → Free p h → ByByte (By (lineAt h p)) c h p b
   unfolding holding
   byte-turns Idle b f = ((refl, tt), (refl, tt))
-  byte-turns (WaitEot timer tries) b f = ((refl, puts-busy (sends (lineAt h (WaitEot timer tries)) tries .out) refl), (refl, tt), λ n. (refl, tt))
+  byte-turns (WaitEot timer tries) b f = (((refl, refl), puts-busy (sends (lineAt h (WaitEot timer tries)) tries .out) refl), (refl, tt), λ n. (refl, tt))
   byte-turns (Draining tries) b f = (refl, tt)
   byte-turns (WaitAck timer tries) b f = (((refl, f), tt), ((refl, f), tt), (refl, tt))
   byte-turns (WaitLength timer) b f = ((refl, tt), (refl, tt))

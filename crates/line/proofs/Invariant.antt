@@ -90,6 +90,7 @@ pub record Good (c : Limits) (t : Track) : Type 0 where
 -- why something is told: the onlooker before the call saw s, and after it s'
 abbrev pub Cause : Limits → Call → Seen → Seen → List ℕ → Out → Told → Type 0
 Cause c k s s' rs o told.Nothing = Unit {0}
+Cause c k s s' rs o told.PutOut = (s .ours ≡ enquired) × (comes EOT k ≡ true)
 Cause c k s s' rs o told.Sent = (s .ours ≡ left) × (comes ACK k ≡ true)
 Cause c k s s' rs o told.Failed = s' .enqs ≡ c .rty + 1
 Cause c k s s' rs o (told.Up n) = IsBlock n (take n rs) (s' .bytes) × (o ≡ Code ACK)
@@ -183,7 +184,7 @@ at-byte c h (WaitEot timer tries) rs w e r bs q b fits g f m x =
     let l = lineAt h (WaitEot timer tries) in
     let P : Step → Type 0 = λ s. Kept c (seenAt h (WaitEot timer tries) w e r bs q) (byte b fits) (heard s rs) in
     let n : At c (WaitLength 0) w e 0 0 0 = (omega arith, fewer c tries w (g .1) (omega arith), refl, refl) in
-    chosen P (eqb b EOT) _ _ (λ i. kept refl refl refl refl refl refl refl (omega arith) f m tt)
+    chosen P (eqb b EOT) _ _ (λ i. said (also refl i) tt never refl refl refl refl (omega arith) f m tt)
     (λ i. chosen P (eqb b ENQ) _ _
     (λ j. chosen P (c .master) (stays l) (yields l) (λ y. kept refl refl refl refl refl refl refl (omega arith) f m tt)
     (λ y.

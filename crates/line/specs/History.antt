@@ -87,6 +87,7 @@ puts x Block = false
 -- "until it is sent, fails .."
 abbrev pub isOver : Told → Bool
 isOver told.Nothing = false
+isOver told.PutOut = false
 isOver told.Sent = true
 isOver told.Failed = true
 isOver (told.Up n) = false

@@ -97,7 +97,7 @@ giveWay c l = cond (c .master) (stays l) (yields l)
 
 -- "puts out the whole block"
 abbrev pub sends : Line → ℕ → Step
-sends l tries = goes l (Draining tries) Block
+sends l tries = tells l (Draining tries) Block told.PutOut
 
 -- Waiting for EOT: "EOT puts out the whole block." .. "Other bytes are dropped and do not touch the timer."
 unfoldable pub eotByte : Limits → Line → ℕ → ℕ → Step

@@ -75,8 +75,8 @@ pub record IdleRules (c : Limits) (rs : List ℕ) (h : Bool) : Type 0 where
 
 -- "Waiting for EOT"
 pub record WaitEotRules (c : Limits) (rs : List ℕ) (h : Bool) (timer tries : ℕ) : Type 0 where
-  -- "EOT puts out the whole block."
-  pub eot : onByte c rs h (WaitEot timer tries) EOT ≡ says h (Draining tries) Block
+  -- "EOT puts out the whole block.": and that is told (02, request 1)
+  pub eot : onByte c rs h (WaitEot timer tries) EOT ≡ saysTold h (Draining tries) Block told.PutOut
   -- "ENQ at the slave gives EOT and holds the block; the master drops it."
   pub enq-slave : c .master ≡ false → onByte c rs h (WaitEot timer tries) ENQ ≡ saysRemark true (WaitLength 0) (Code EOT) remark.GaveWay
   pub enq-master : c .master ≡ true → onByte c rs h (WaitEot timer tries) ENQ ≡ says h (WaitEot timer tries) Nothing
@@ -167,7 +167,7 @@ pub record HeldRules (h : Bool) : Type 0 where
   pub ask-sending : (p : Phase) → Sends p → askOf (lineAt h p) ≡ lineAt h p
   pub settle-receiving : (p : Phase) → Receives p → settleOf (lineAt h p) ≡ says h p Nothing
   pub settle-sending : (p : Phase) → Sends p → settleOf (lineAt h p) ≡ says h p Nothing
-  -- a message that is gone is withdrawn: a held block is held no more, and none is owed (no call of 01 comes to that)
+  -- a message that is gone is withdrawn: a held block is held no more, and none is owed (02, request 1)
   pub withdrawn : (p : Phase) → withdrawOf (lineAt h p) ≡ lineAt false p
 
 -- the received bytes change in the body alone

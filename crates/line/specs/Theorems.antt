@@ -97,21 +97,24 @@ SendEndsBy = Always (λ c t. (k : Call) → EndsBy c t k)
 
 -- ---- what a step can tell, whatever line it finds
 
--- nothing is told, and nothing remarked
-pub record Quiet (s : Step) : Type 0 where
-  pub told : s .told ≡ told.Nothing
+-- this is told, and nothing remarked
+pub record TellsOnly (s : Step) (t : Told) : Type 0 where
+  pub told : s .told ≡ t
   pub remark : s .remark ≡ remark.Nothing
 
--- The whole block leaves alone: in the step that puts it out nothing is told or remarked. Nor is it by settling.
+-- The whole block leaves alone: in the step that puts it out just that is told, and nothing remarked; and it is told in no other step. By
+-- settling nothing is told or remarked.
 pub record QuietAt (c : Limits) (l : Line) (rs : List ℕ) : Type 0 where
-  pub block : (k : Call) → called c l rs k .step .out ≡ Block → Quiet (called c l rs k .step)
-  pub settled : Quiet (settleOf l)
+  pub block : (k : Call) → called c l rs k .step .out ≡ Block → TellsOnly (called c l rs k .step) told.PutOut
+  pub only-then : (k : Call) → called c l rs k .step .told ≡ told.PutOut → called c l rs k .step .out ≡ Block
+  pub settled : TellsOnly (settleOf l) told.Nothing
 
 abbrev pub BlockAlone : Type 0
 BlockAlone = (c : Limits) (l : Line) (rs : List ℕ) → QuietAt c l rs
 
--- No block is sent at a tick, none goes up and none gives way: ACK, the last byte of a block and ENQ are bytes.
+-- No block is put out at a tick, none is sent, none goes up and none gives way: EOT, ACK, the last byte of a block and ENQ are bytes.
 pub record AtTick (s : Step) : Type 0 where
+  pub not-out : s .told ≢ told.PutOut
   pub not-sent : s .told ≢ told.Sent
   pub not-up : (n : ℕ) → s .told ≢ told.Up n
   pub no-way : s .remark ≢ remark.GaveWay
@@ -124,6 +127,7 @@ TicksTell = (c : Limits) (l : Line) → AtTick (tickOf c l)
 -- by what a step tells, busy before it and after: what ends a send ends that, and nothing else does
 abbrev pub Turns : Told → Bool → Bool → Type 0
 Turns told.Nothing before after = before ≡ after
+Turns told.PutOut before after = (before ≡ true) × (after ≡ true)
 Turns told.Sent before after = (before ≡ true) × (after ≡ false)
 Turns told.Failed before after = (before ≡ true) × (after ≡ false)
 Turns (told.Up n) before after = before ≡ after

@@ -49,7 +49,7 @@ impl Line {
         ensures { λ r. ⌜ r ≡ eotByte limits self tries b ⌝ }
     {
         if b == Line::EOT {
-            self.goes(Phase::Draining { tries }, Out::Block)
+            self.tells(Phase::Draining { tries }, Out::Block, Told::PutOut)
         } else if b == Line::ENQ {
             self.give_way(limits)
         } else {

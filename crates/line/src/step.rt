@@ -16,6 +16,8 @@ pub enum Out {
 // What the transactions are told, as any device tells them.
 pub enum Told {
     Nothing,
+    // The whole block goes out in this call.
+    PutOut,
     // The block was acknowledged.
     Sent,
     // The block was tried RTY + 1 times.

@@ -11,7 +11,7 @@ use Rattle.room.specs.Room.{roomSize}
 use Rattle.line.specs.Line.{Heard}
 use Rattle.line.specs.declared.step.Out.{Out}
 use Rattle.line.specs.declared.step.Out.the-variants as out
-use Rattle.exchange.specs.Send.{sentOf}
+use Rattle.exchange.specs.Send.{putOutOf, sentOf}
 use Rattle.exchange.specs.Request.{Requesting, requesting, Request, primary, reply, free-own, free-incoming, answerOf, lends}
 use Rattle.exchange.specs.declared.Exchange.{Exchange}
 use Rattle.exchange.specs.declared.Asked.{Asked}
@@ -19,7 +19,7 @@ use Rattle.exchange.specs.declared.Asked.the-variants as asked
 use Rattle.exchange.specs.declared.Refusal.{Refusal as RequestRefusal}
 use Rattle.exchange.proofs.Accepting.{refused-number, refused-changes-nothing}
 use Rattle.link.specs.State.{refusedAs, linkInRange, outputShort, roomFits, gateOf}
-use Rattle.link.specs.Run.{Left, left, untold, changedTo, acknowledged, blockOut, unlessBlock, hears, stepped, byteStepped}
+use Rattle.link.specs.Run.{Left, left, untold, changedTo, puttingOut, acknowledged, blockOut, unlessBlock, hears, hearing, stepped, byteStepped}
 use Rattle.link.specs.Call.{through, gated, requestedBy, requestedAs, freesBy, frees, freeCall, requestBy, requestCall}
 use Rattle.link.specs.declared.Refusal.{Refusal}
 use Rattle.link.specs.declared.Refusal.the-variants as refusal
@@ -67,8 +67,16 @@ by-block P out.Block block l none code whole = whole refl
 pub by-byte : (P : Out → Left → Type 0) (u : Link) (h : Heard) (room o : List ℕ)
     → (h .step .out ≡ out.Nothing → P out.Nothing (stepped false u h room o))
     → ((c : ℕ) → h .step .out ≡ out.Code c → P (out.Code c) (stepped false u h room o))
-    → (h .step .out ≡ out.Block → P out.Block (blockOut (hears u h) room o)) → P (h .step .out) (byteStepped u h room o)
-by-byte P u h room o none code whole = by-block P (h .step .out) (blockOut (hears u h) room o) (stepped false u h room o) none code whole
+    → (h .step .out ≡ out.Block → P out.Block (blockOut (hears u h) (hearing (h .step .told) (h .step .remark) (hears u h) room) room o))
+    → P (h .step .out) (byteStepped u h room o)
+by-byte P u h room o none code whole =
+    by-block P (h .step .out) (blockOut (hears u h) (hearing (h .step .told) (h .step .remark) (hears u h) room) room o) (stepped false u h room o) none code whole
+
+-- a block goes out: its message has a next one, or it is the last
+pub by-put-out : (P : Bool → Exchange → Type 0) (more : Bool) (x : Exchange)
+    → (more ≡ true → P true x) → (more ≡ false → P false (putOutOf x)) → P more (puttingOut more x)
+unfolding puttingOut
+by-put-out P more x on last = either more (λ z. P z (cond z x (putOutOf x))) on last
 
 -- a block was acknowledged: its message has a next one, or it was the last
 pub by-sent : (P : Bool → Midway → Type 0) (more : Bool) (x : Exchange) (t : Note)

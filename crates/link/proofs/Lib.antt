@@ -1,5 +1,5 @@
 -- Calls by cases; the line's step in a call; what an accepted call, and a refused one, tells. Then a folder for each file of statements (specs/): `inside`, `door`,
--- `refusals`, `device`, `moves`, `verdicts`, `numbers`, `saved`, `same_message`, `sends`, `hearing`; and 01's numbers.
+-- `refusals`, `device`, `moves`, `verdicts`, `numbers`, `saved`, `same_message`, `sends`, `hearing`, `withdrawn`; and 01's numbers.
 pub mod Cases
 pub mod Steps
 pub mod Accepted
@@ -15,3 +15,4 @@ pub mod same_message
 pub mod sends
 pub mod Table
 pub mod hearing
+pub mod withdrawn

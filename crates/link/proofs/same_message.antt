@@ -2,6 +2,7 @@ pub mod Calls
 pub mod Hears
 pub mod Blocks
 pub mod Reaches
+pub mod PutsOut
 pub mod Carries
 pub mod Stands
 pub mod Asks

@@ -18,12 +18,13 @@ carried l k = record { line = l; block = k }
 -- a message that goes on: "ACK means sent; the message's next block goes out with ENQ in the same call."
 abbrev pub goesOn : Told → Line → ℕ → Carried
 goesOn told.Nothing l k = carried l k
+goesOn told.PutOut l k = carried l k
 goesOn told.Sent l k = carried (askOf l) (k + 1)
 goesOn told.Failed l k = carried l k
 goesOn (told.Up n) l k = carried l k
 
 -- by whether a message was being sent before, and is now: one that began is asked for from its first block ("numbers start at 1"); one
--- that is gone is withdrawn from the line, and no block is on its way
+-- that is gone is withdrawn from the line, and no block is on its way: so is one that was proved received by its reply (02, request 1)
 abbrev pub courierBy : Bool → Bool → Told → Line → ℕ → Carried
 courierBy false false t l k = carried l k
 courierBy false true t l k = carried (askOf l) 1

@@ -9,7 +9,7 @@ use lib.Dec.{eqb}
 use lib.ListN.{length}
 use Rattle.wire.specs.Bytes.{part}
 use Rattle.header.specs.Header.{firstTen}
-use Rattle.line.specs.Codes.{ACK}
+use Rattle.line.specs.Codes.{EOT, ACK}
 use Rattle.line.specs.History as line
 use Rattle.line.specs.Theorems.{IsBlock}
 use Rattle.line.specs.declared.step.Told.{Told}
@@ -44,6 +44,10 @@ comes x tick = false
 comes x drained = false
 comes x (request r) = false
 
+-- "EOT puts out the whole block": the line tells so exactly if EOT came while it was waited for
+abbrev pub PutOutExactly : Type 0
+PutOutExactly = Always (λ t. (m : Made) → LineTells t m told.PutOut ↔ (Accepted t m × (comes EOT (m .call) ≡ true) × (t .seen .ours ≡ line.enquired)))
+
 -- "ACK means sent": the line tells so exactly if ACK came while it was waited for
 abbrev pub SentExactly : Type 0
 SentExactly = Always (λ t. (m : Made) → LineTells t m told.Sent ↔ (Accepted t m × (comes ACK (m .call) ≡ true) × (t .seen .ours ≡ line.left)))
@@ -76,6 +80,8 @@ WentUpExactly = Always (λ t. (m : Made) (h d : List ℕ) → WentUp t m h d ↔
 
 -- What the transactions are told, each exactly when.
 pub record ToldWhen (t : Track) (m : Made) : Type 0 where
+  -- a message's last block that is put out
+  pub put-out : Tells t m exchange.put-out ↔ (LineTells t m told.PutOut × (hasNext (t .link) ≡ false))
   -- the ACK of a message's last block
   pub acknowledged : Tells t m exchange.acknowledged ↔ (LineTells t m told.Sent × (hasNext (t .link) ≡ false))
   -- a send that failed

@@ -313,6 +313,7 @@ ReceiveTimer (Silence timer fault) silent = timer ≡ silent
 abbrev pub OwnTimer : OwnStage → own.Seen → Type 0
 OwnTimer stage.Free s = Unit {0}
 OwnTimer stage.Sending s = Unit {0}
+OwnTimer stage.PutOut s = Unit {0}
 OwnTimer (stage.Awaiting timer) s = timer ≡ s .since
 OwnTimer (stage.Replying a) s = a .timer ≡ s .quiet
 OwnTimer (stage.Done v r) s = Unit {0}

@@ -81,9 +81,10 @@ stepIn u tick = lineStep u line.tick
 stepIn u drained = lineStep u line.drained
 stepIn u (request r) = heard (stays (u .line)) (u .received)
 
--- what the device tells becomes a call of the transactions: of a message's blocks they are told the end of the last one
+-- what the device tells becomes a call of the transactions: of a message's blocks they are told that the last one is put out, and its end
 abbrev pub toldOn : Told → Bool → List ℕ → List exchange.Call
 toldOn told.Nothing next rs = []
+toldOn told.PutOut next rs = cond next [] (exchange.put-out ∷ [])
 toldOn told.Sent next rs = cond next [] (exchange.acknowledged ∷ [])
 toldOn told.Failed next rs = exchange.failed ∷ []
 toldOn (told.Up n) next rs = exchange.block (firstTen rs) (part 10 n rs) ∷ []
@@ -113,6 +114,7 @@ exchangeIn u room (request r) = answerOf (u .settings .terms) (u .exchange) r ro
 -- the courier's calls of the line, as `courierBy` has them
 abbrev pub goingOn : Told → List line.Call
 goingOn told.Nothing = []
+goingOn told.PutOut = []
 goingOn told.Sent = line.ask ∷ []
 goingOn told.Failed = []
 goingOn (told.Up n) = []

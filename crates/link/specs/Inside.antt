@@ -29,10 +29,10 @@ use Rattle.exchange.specs.Send.{outgoingOf}
 use Rattle.exchange.specs.declared.Sending.{Sending}
 use Rattle.exchange.specs.declared.Outgoing.the-variants as outgoing
 use Rattle.link.specs.Setup.{rangedOf}
-use Rattle.link.specs.State.{linkInRange}
+use Rattle.link.specs.State.{linkInRange, startOf}
 use Rattle.link.specs.Courier.{courierOf}
 use Rattle.link.specs.Run.{Left, blockBytes}
-use Rattle.link.specs.History.{Call, called, Room, kept, other, Made, cameTo, lineCalls, exchangeCalls, Track, lineTrack, exchangeTrack, limitsIn, termsIn, track, atStart}
+use Rattle.link.specs.History.{Call, called, Room, kept, other, lentRoom, Made, cameTo, lineCalls, exchangeCalls, Track, lineTrack, exchangeTrack, limitsIn, termsIn, next, track, atStart}
 use Rattle.link.specs.declared.Setup.{Setup}
 use Rattle.link.specs.declared.Settings.{Settings}
 use Rattle.link.specs.declared.Ranged.the-variants as ranged
@@ -57,6 +57,15 @@ pub record Reached (t : Track) : Type 0 where
 -- a statement on all that can be reached
 abbrev pub Always : (Track → Type 0) → Type 0
 Always P = (t : Track) → Reached t → P t
+
+-- That is all that calls leave: the unit of a start that is not refused is reached, and so is what any call leaves of one that is.
+pub record CallsReach : Type 0 where
+  pub start :
+      (s : Setup) (z : Settings) → rangedOf s ≡ ranged.Settings z → (room : List ℕ) → length room ≡ 36864
+      → Reached (atStart z (s .last) room) × (atStart z (s .last) room .link ≡ startOf s .link)
+  pub call :
+      (t : Track) → Reached t → (m : Made)
+      → Reached (next t m) × (next t m .link ≡ called (t .link) (lentRoom (m .room) (t .room)) (m .out) (m .call) .answer .link)
 
 -- "while the room comes back as the last call left it": another one that is lent is not 36,864 bytes, and nothing is done with it
 abbrev pub ComesBack : Room → Type 0
@@ -175,8 +184,8 @@ pub record LeftBy (before after : Sending) (t : Told) (l : Line) (k : ℕ) (r : 
   pub line : LineCarried (sendingBy after) l (r .line)
   pub block : BlockCarried before after t k (r .block)
 
--- So the courier leaves the line in agreement with any transactions, also with those that give a message up of their own accord, which
--- today's never do.
+-- So the courier leaves the line in agreement with any transactions, also with those that give a message up that is held: as ours do where
+-- its reply proves it received (`WithdrawnExactly`, specs/Withdrawn.antt).
 abbrev pub CourierAgrees : Type 0
 CourierAgrees =
     (before after : Sending) (t : Told) (l : Line) (k : ℕ) (room : List ℕ) → Handed before after t l → LeftBy before after t l k (courierOf before after t l k room)

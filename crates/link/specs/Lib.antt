@@ -16,5 +16,6 @@ pub mod Numbers
 pub mod Saved
 pub mod Sends
 pub mod Hearing
+pub mod Withdrawn
 pub mod SameMessage
 pub mod Table

@@ -15,14 +15,16 @@ use Rattle.line.specs.declared.step.Remark.{Remark}
 use Rattle.line.specs.declared.step.Remark.the-variants as remark
 use Rattle.place.specs.OwnHistory as own
 use Rattle.place.specs.IncomingHistory as incoming
-use Rattle.exchange.specs.Exchange.{ownPlace, incomingPlace}
+use Rattle.place.specs.IncomingTheorems.{TicksOne}
+use Rattle.exchange.specs.Exchange.{ownPlace, incomingPlace, sentFrom}
 use Rattle.exchange.specs.Flags.{noFlags}
 use Rattle.exchange.specs.Request.{primary, reply, primaryHeader}
 use Rattle.exchange.specs.History as exchange
 use Rattle.exchange.specs.Refusals.{numberGiven, AsAsked}
 use Rattle.exchange.specs.Rules.{LowestAt, OfReply, OfMessage, ReplyHere, MessageHere, AlikeAt, FreeAt, AlikeHere, Ruled}
 use Rattle.exchange.specs.Theorems.{ThrowsOut as BlockThrowsOut, Flagged}
-use Rattle.exchange.specs.Watching.{sentFrom, replyFrom, acceptedAs, freedSeen}
+use Rattle.exchange.specs.Underway.{OnItsWay}
+use Rattle.exchange.specs.Watching.{replyFrom, acceptedAs, freedSeen}
 use Rattle.exchange.specs.declared.Exchange.{Exchange}
 use Rattle.exchange.specs.declared.ReplyStage.{ReplyStage}
 use Rattle.exchange.specs.declared.ReplyStage.the-variants as stage
@@ -59,6 +61,17 @@ pub record Opens (t : Track) (m : Made) (p : ℕ) (q : Primary) : Type 0 where
   pub told : Tells t m (exchange.request (primary q rest))
   pub place : answered t m .answer .outcome ≡ outcome.Taken p
 
+-- the last block of its primary was put out, at the first attempt or again
+pub record PutsOut (t : Track) (m : Made) (p : ℕ) : Type 0 where
+  pub told : Tells t m exchange.put-out
+  pub of-it : sentFrom (t .link .exchange .sending) p ≡ true
+
+-- the first time, and the primary asks for a reply
+pub record FirstOut (t : Track) (m : Made) (p : ℕ) : Type 0 where
+  pub puts-out : PutsOut t m p
+  pub before : t .own p .request ≡ own.underway
+  pub wanted : t .own p .header .w ≡ true
+
 -- the last block of its primary was acknowledged
 pub record Acknowledges (t : Track) (m : Made) (p : ℕ) : Type 0 where
   pub told : Tells t m exchange.acknowledged
@@ -75,6 +88,16 @@ pub record RepliedTo (t : Track) (m : Made) (p n : ℕ) (h d : List ℕ) : Type 
   pub note : noted t m ≡ n
   pub of-it : LowestAt (λ q. OfReply (ownPlace (t .link .exchange) q) (headerOf h)) p
 
+-- a block of the reply came while the last block of its primary was out and not acknowledged, and was kept, or broke the reply: "proved
+-- received by its reply" (02, request 1)
+pub record Proves (t : Track) (m : Made) (p : ℕ) : Type 0 where
+  pub before : t .own p .request ≡ own.out
+  pub header : List ℕ
+  pub rest : List ℕ
+  pub note : ℕ
+  pub either : (note ≡ 21) ⊎ (note ≡ 27)
+  pub came : RepliedTo t m p note header rest
+
 -- ---- how the onlooker of own place p moves
 
 -- one tick more since the ACK, and since the last block kept
@@ -87,10 +110,6 @@ abbrev pub underwayWith : own.Seen → Header → own.Seen
 underwayWith s h =
     record { request = own.underway; header = h; kept = s .kept; bytes = s .bytes; spoilt = s .spoilt; since = s .since; quiet = s .quiet }
 
--- its last block was acknowledged: all counts start
-abbrev pub countsStart : own.Seen → own.Seen
-countsStart s = record { request = own.acknowledged; header = s .header; kept = []; bytes = 0; spoilt = false; since = 0; quiet = 0 }
-
 -- All that a call can be to this onlooker, and what it has then seen.
 pub data OwnStep (t : Track) (m : Made) (p : ℕ) : own.Seen → Type 0 where
   same : (Ticks t m → ⊥) → OwnStep t m p (t .own p)
@@ -99,13 +118,42 @@ pub data OwnStep (t : Track) (m : Made) (p : ℕ) : own.Seen → Type 0 where
   loses : (Ticks t m → ⊥) → Loses t m p → OwnStep t m p (own.at (t .own p) own.lost)
   loses-passing : Ticks t m → Loses t m p → OwnStep t m p (passed (own.at (t .own p) own.lost))
   opens : (q : Primary) → Opens t m p q → OwnStep t m p (underwayWith (t .own p) (acceptedAs (termsIn t) (t .link .exchange) q))
-  acknowledges : Acknowledges t m p → OwnStep t m p (countsStart (t .own p))
+  -- all counts start with the first time that the last block is out, and anew with its ACK
+  goes-out : FirstOut t m p → OwnStep t m p (own.counting (t .own p) own.out)
+  acknowledges : Acknowledges t m p → OwnStep t m p (own.counting (t .own p) own.acknowledged)
   frees : FreesOwn t m p → OwnStep t m p (own.at (t .own p) own.none)
   -- "Kept: note 21."
   keeps : (h d : List ℕ) → RepliedTo t m p 21 h d → OwnStep t m p (own.answered own.kept (t .own p) (headerOf h) (length d))
   -- 26 and 27: "An open message, or awaited reply, ends broken."
   spoils : (n : ℕ) (h d : List ℕ) → (n ≡ 26) ⊎ (n ≡ 27) → RepliedTo t m p n h d
       → OwnStep t m p (own.answered own.spoilt (t .own p) (headerOf h) (length d))
+
+-- What a block that is kept adds: its header behind those before it, and its data; "With E = 0, T4 restarts."
+pub record KeepsOne (before after : own.Seen) (b : Header) (size : ℕ) : Type 0 where
+  pub kept : after .kept ≡ before .kept ++ (b ∷ [])
+  pub bytes : after .bytes ≡ before .bytes + size
+  pub spoilt : after .spoilt ≡ before .spoilt
+  pub quiet : after .quiet ≡ 0
+
+-- what one that breaks the reply does: nothing of it is kept
+pub record SpoilsOne (before after : own.Seen) : Type 0 where
+  pub kept : after .kept ≡ before .kept
+  pub bytes : after .bytes ≡ before .bytes
+  pub spoilt : after .spoilt ≡ true
+
+-- what a tick leaves of the blocks seen, whether or not a send failed in it: all as it was
+pub record BlocksStay (before after : own.Seen) : Type 0 where
+  pub kept : after .kept ≡ before .kept
+  pub bytes : after .bytes ≡ before .bytes
+  pub spoilt : after .spoilt ≡ before .spoilt
+
+-- where counts start: no block was seen, and "A timer starts at 0"
+pub record NoneCounted (after : own.Seen) : Type 0 where
+  pub kept : after .kept ≡ []
+  pub bytes : after .bytes ≡ 0
+  pub spoilt : after .spoilt ≡ false
+  pub since : after .since ≡ 0
+  pub quiet : after .quiet ≡ 0
 
 -- the request came to this in the call
 pub record Becomes (t : Track) (m : Made) (p : ℕ) (r : own.Request) : Type 0 where
@@ -119,16 +167,36 @@ pub record OwnMoves (t : Track) (m : Made) (p : ℕ) : Type 0 where
   pub refused : Refused t m → next t m .own p ≡ t .own p
   -- each tick adds one to the ticks since the ACK, and to those since the last block kept
   pub ticked : Ticks t m → (next t m .own p .since ≡ t .own p .since + 1) × (next t m .own p .quiet ≡ t .own p .quiet + 1)
-  -- nothing else changes the ticks since the ACK, but that ACK, from which they are counted
-  pub since-kept : (Ticks t m → ⊥) → (Acknowledges t m p → ⊥) → next t m .own p .since ≡ t .own p .since
+  -- and no block comes by it
+  pub ticks-keep : Ticks t m → BlocksStay (t .own p) (next t m .own p)
+  -- nothing else changes the ticks since the ACK, but that ACK, or the reply's block in its stead, from which they are counted; and, before
+  -- either, the put-out
+  pub since-kept : (Ticks t m → ⊥) → (FirstOut t m p → ⊥) → (Acknowledges t m p → ⊥) → (Proves t m p → ⊥) → next t m .own p .since ≡ t .own p .since
+  -- nor does anything else change those since the last block kept, but a block that is kept
+  pub quiet-kept :
+      (Ticks t m → ⊥) → (FirstOut t m p → ⊥) → (Acknowledges t m p → ⊥) → ((h d : List ℕ) → RepliedTo t m p 21 h d → ⊥)
+      → next t m .own p .quiet ≡ t .own p .quiet
+  -- the header is that of the request which was accepted: no other call changes it
+  pub header-stays : ((q : Primary) → Opens t m p q → ⊥) → next t m .own p .header ≡ t .own p .header
   -- a request is underway from the call in which it is accepted, with the header as it was asked for and the number given
   pub opened :
       (q : Primary) → Opens t m p q
       → (t .own p .request ≡ own.none) × (next t m .own p ≡ underwayWith (t .own p) (acceptedAs (termsIn t) (t .link .exchange) q))
   pub opened-only : Becomes t m p own.underway → (q : Primary) × Opens t m p q
+  -- out exactly from the first time that the last block of a primary with W = 1 is put out
+  pub out : Becomes t m p own.out ↔ FirstOut t m p
+  pub counts-blocks : FirstOut t m p → next t m .own p ≡ own.counting (t .own p) own.out
+  pub outs-one : FirstOut t m p → NoneCounted (next t m .own p)
+  -- a further attempt changes nothing
+  pub again : PutsOut t m p → t .own p .request ≡ own.out → next t m .own p ≡ t .own p
   -- acknowledged exactly from the ACK of its last block
   pub acknowledged : Becomes t m p own.acknowledged ↔ Acknowledges t m p
-  pub counts-start : Acknowledges t m p → next t m .own p ≡ countsStart (t .own p)
+  pub counts-start : Acknowledges t m p → next t m .own p ≡ own.counting (t .own p) own.acknowledged
+  -- "T3 runs, from the ACK"
+  pub acks-one : Acknowledges t m p → NoneCounted (next t m .own p)
+  -- proved received exactly from a block of the reply that comes before that, noted 21 or 27; ticks are counted from it
+  pub proved : Becomes t m p own.proved ↔ Proves t m p
+  pub counts-ticks : Proves t m p → next t m .own p .since ≡ 0
   -- lost exactly once the send of a block of it has failed
   pub lost : Becomes t m p own.lost ↔ Loses t m p
   -- gone exactly with the release
@@ -138,6 +206,7 @@ pub record OwnMoves (t : Track) (m : Made) (p : ℕ) : Type 0 where
   pub kept :
       (h d : List ℕ) → RepliedTo t m p 21 h d
       → (next t m .own p ≡ own.answered own.kept (t .own p) (headerOf h) (length d)) × (next t m .joined .replies p ≡ t .joined .replies p ++ d)
+  pub keeps-one : (h d : List ℕ) → RepliedTo t m p 21 h d → KeepsOne (t .own p) (next t m .own p) (headerOf h) (length d)
   pub kept-only :
       (b : Header) → next t m .own p .kept ≡ t .own p .kept ++ (b ∷ [])
       → (h : List ℕ) × (d : List ℕ) × RepliedTo t m p 21 h d × (headerOf h ≡ b)
@@ -145,6 +214,7 @@ pub record OwnMoves (t : Track) (m : Made) (p : ℕ) : Type 0 where
   pub spoilt :
       (n : ℕ) (h d : List ℕ) → (n ≡ 26) ⊎ (n ≡ 27) → RepliedTo t m p n h d
       → next t m .own p ≡ own.answered own.spoilt (t .own p) (headerOf h) (length d)
+  pub spoils-one : (n : ℕ) (h d : List ℕ) → (n ≡ 26) ⊎ (n ≡ 27) → RepliedTo t m p n h d → SpoilsOne (t .own p) (next t m .own p)
   pub spoilt-only :
       t .own p .spoilt ≡ false → next t m .own p .spoilt ≡ true
       → (n : ℕ) × (h : List ℕ) × (d : List ℕ) × ((n ≡ 26) ⊎ (n ≡ 27)) × RepliedTo t m p n h d
@@ -152,9 +222,9 @@ pub record OwnMoves (t : Track) (m : Made) (p : ℕ) : Type 0 where
 abbrev pub OwnSeen : Type 0
 OwnSeen = AtEach (λ t p. (m : Made) → OwnMoves t m p)
 
--- A request is underway exactly while its primary is the message "being sent or held".
+-- A request is underway or out exactly while its primary is the message "being sent or held".
 abbrev pub UnderwayExactly : Type 0
-UnderwayExactly = AtEach (λ t p. (t .own p .request ≡ own.underway) ↔ (sentFrom (t .link .exchange .sending) p ≡ true))
+UnderwayExactly = AtEach (λ t p. OnItsWay (t .own p .request) ↔ (sentFrom (t .link .exchange .sending) p ≡ true))
 
 -- The header of an accepted request is as it was asked for, with the number given.
 abbrev pub HeaderAsAsked : Type 0
@@ -196,6 +266,27 @@ pub data IncomingStep (t : Track) (m : Made) (p : ℕ) : incoming.Seen → Type 
       → IncomingStep t m p (incoming.seesNext own.spoilt (t .incoming p) (headerOf h) (length d))
   frees : FreesIncoming t m p → IncomingStep t m p (freedSeen (t .incoming p))
 
+-- What the first block adds, a further one that is kept, and one that breaks the message.
+pub record BeginsOne (after : incoming.Seen) (b : Header) (size : ℕ) : Type 0 where
+  pub begun : after .begun ≡ true
+  pub kept : after .kept ≡ b ∷ []
+  pub bytes : after .bytes ≡ size
+  pub spoilt : after .spoilt ≡ false
+  pub quiet : after .quiet ≡ 0
+
+pub record ContinuesOne (before after : incoming.Seen) (b : Header) (size : ℕ) : Type 0 where
+  pub begun : after .begun ≡ before .begun
+  pub kept : after .kept ≡ before .kept ++ (b ∷ [])
+  pub bytes : after .bytes ≡ before .bytes + size
+  pub spoilt : after .spoilt ≡ before .spoilt
+  pub quiet : after .quiet ≡ 0
+
+pub record BreaksOne (before after : incoming.Seen) : Type 0 where
+  pub begun : after .begun ≡ before .begun
+  pub kept : after .kept ≡ before .kept
+  pub bytes : after .bytes ≡ before .bytes
+  pub spoilt : after .spoilt ≡ true
+
 -- It is one of those and no other, and each is what it says; the data of a block that is kept is joined.
 pub record IncomingMoves (t : Track) (m : Made) (p : ℕ) : Type 0 where
   pub one-of : IncomingStep t m p (next t m .incoming p)
@@ -212,6 +303,16 @@ pub record IncomingMoves (t : Track) (m : Made) (p : ℕ) : Type 0 where
       (n : ℕ) (h d : List ℕ) → (n ≡ 26) ⊎ (n ≡ 27) → Continued t m p n h d
       → next t m .incoming p ≡ incoming.seesNext own.spoilt (t .incoming p) (headerOf h) (length d)
   pub released : FreesIncoming t m p → next t m .incoming p ≡ freedSeen (t .incoming p)
+  -- in plain words
+  pub ticks-one : Ticks t m → TicksOne (t .incoming p) (next t m .incoming p)
+  pub begins-one : (h d : List ℕ) → Began t m p h d → BeginsOne (next t m .incoming p) (headerOf h) (length d)
+  pub continues-one : (h d : List ℕ) → Continued t m p 21 h d → ContinuesOne (t .incoming p) (next t m .incoming p) (headerOf h) (length d)
+  pub breaks-one :
+      (n : ℕ) (h d : List ℕ) → (n ≡ 26) ⊎ (n ≡ 27) → Continued t m p n h d → BreaksOne (t .incoming p) (next t m .incoming p)
+  -- nothing else changes the ticks since the last block kept
+  pub quiet-kept :
+      (Ticks t m → ⊥) → ((h d : List ℕ) → Began t m p h d → ⊥) → ((h d : List ℕ) → Continued t m p 21 h d → ⊥)
+      → next t m .incoming p .quiet ≡ t .incoming p .quiet
 
 abbrev pub IncomingSeen : Type 0
 IncomingSeen = AtEach (λ t p. (m : Made) → IncomingMoves t m p)

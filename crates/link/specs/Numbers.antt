@@ -8,12 +8,12 @@ use mathlib.Core.Bool.{true}
 use mathlib.Core.List.{List, [], _∷_}
 use mathlib.Core.Logic.{_≢_}
 use Rattle.exchange.specs.Request.{Request}
-use Rattle.exchange.specs.Numbers.{numberShown, NumbersSeen, lastBy, latestSeen, numbersAtStart, NumbersAre, inUse, NumberNew}
+use Rattle.exchange.specs.Numbers.{numberShown, NumbersSeen, lastBy, latestSeen, numbersAtStart, NumbersAre, LastMoves, LatestMoves, inUse, NumberNew}
 use Rattle.exchange.specs.declared.OwnReading.{OwnReading}
 use Rattle.exchange.specs.declared.Primary.{Primary}
 use Rattle.link.specs.Reading.{ownOf}
 use Rattle.link.specs.History.{Call, byte, tick, drained, request, Made, Track, answered, next, atStart}
-use Rattle.link.specs.Inside.{Reached}
+use Rattle.link.specs.Inside.{Reached, Always}
 use Rattle.link.specs.Moves.{Opens}
 use Rattle.link.specs.declared.Outcome.{Outcome}
 use Rattle.link.specs.declared.Outcome.the-variants.{Done, Taken, Refused}
@@ -49,6 +49,15 @@ numbersSeen t w = numbersWatch (atStart (w .settings) (w .setup .last) (w .room)
 -- The numbers that the state keeps are the onlooker's. ("last transaction number | 0 to 65535", which the setting's type keeps to.)
 abbrev pub NumbersKept : Type 0
 NumbersKept = (t : Track) (w : Reached t) → w .setup .last ≤ 65535 → NumbersAre (t .link .exchange) (numbersSeen t w)
+
+-- "the next after the last given": a primary that is accepted is given the next number, and no other call gives one or takes one back.
+abbrev pub LastGiven : Type 0
+LastGiven = Always (λ t. (m : Made) → LastMoves ((p : ℕ) × (q : Primary) × Opens t m p q) (t .link .exchange) (next t m .link .exchange))
+
+-- "that of the latest own transaction to get a verdict": of the one place that got one in the call; of several on a tick, where the line
+-- goes first, of the highest that got one by its timers; and as it was if none did.
+abbrev pub LatestGiven : Type 0
+LatestGiven = Always (λ t. (m : Made) → LatestMoves (t .link .exchange) (next t m .link .exchange))
 
 -- So the number that an accepted primary shows is that of no own place in use, nor of the latest own transaction to get a verdict: the
 -- first two distinctions of E4 6.8.1, of own transactions, with the latest verdict for "completed" (docs/EXCEPTIONS.md).

@@ -17,6 +17,7 @@ use Rattle.room.specs.declared.Message.the-variants as message
 use Rattle.line.specs.Range.{lineInRange, LineFits}
 use Rattle.line.specs.Line.{freshLine, Heard}
 use Rattle.line.specs.declared.line.Line.{Line}
+use Rattle.line.specs.declared.phase.Phase.the-variants as phase
 use Rattle.line.specs.declared.step.Told.the-variants as told
 use Rattle.place.specs.Range.{ownInRange, incomingInRange, OwnFits, IncomingFits}
 use Rattle.place.specs.declared.Own.{Own}
@@ -28,16 +29,20 @@ use Rattle.exchange.specs.Request.{Request, primary, reply, free-own, free-inco
 use Rattle.exchange.specs.Releases.{isRelease}
 use Rattle.exchange.specs.Rules.{Fours, LowestAt, OfReply, OfMessage, ReplyHere, MessageHere, AlikeAt, AlikeHere, FreeAt, bytesBefore}
 use Rattle.exchange.specs.Refusals.{OwnFree, RequestRuled, FillsBy}
+use Rattle.exchange.specs.declared.OwnReading.the-variants as reading
+use Rattle.exchange.specs.declared.IncomingReading.the-variants as arrival
 use Rattle.exchange.specs.declared.Sending.{Sending}
+use Rattle.exchange.specs.declared.Sending.the-variants as sending
 use Rattle.exchange.specs.declared.Exchange.{Exchange}
 use Rattle.exchange.specs.declared.Primary.{Primary}
 use Rattle.link.specs.Answer.{outcomeNumber, noteNumber}
 use Rattle.link.specs.Setup.{noSettings, settingsInRange}
 use Rattle.link.specs.State.{freshLink, refusedAs, linkInRange, startOf}
 use Rattle.link.specs.Run.{Left, left, blockBytes}
-use Rattle.link.specs.Call.{openCall, replyCall, releaseOwnCall, releaseIncomingCall}
+use Rattle.link.specs.Call.{byteCall, tickCall, drainedCall, openCall, replyCall, releaseOwnCall, releaseIncomingCall}
 use Rattle.link.specs.History.{Call, byte, tick, drained, request, called, stepIn, cameTo, lineCalls}
 use Rattle.link.specs.Door.{lineBytes}
+use Rattle.link.specs.Reading.{ownOf, incomingOf}
 use Rattle.link.specs.declared.Setup.{Setup}
 use Rattle.link.specs.declared.Settings.{Settings}
 use Rattle.link.specs.declared.Refusal.{Refusal}
@@ -194,6 +199,12 @@ pub record RequestsAre : Type 0 where
   -- and of the incoming place that is named
   pub frees-incoming : (u : Link) (p : ℕ) (room o : List ℕ) → left (releaseIncomingCall u p) room o ≡ called u room o (request (free-incoming p))
 
+-- And what its three functions on the line do ("Calls: one byte in, one tick, drained") is the call of that name, flags and all.
+pub record CallsAre : Type 0 where
+  pub byte-in : (u : Link) (b : ℕ) (fits : b < 256) (room o : List ℕ) → byteCall u b room o ≡ called u room o (byte b fits)
+  pub ticks : (u : Link) (room o : List ℕ) → tickCall u room o ≡ called u room o tick
+  pub drains : (u : Link) (room o : List ℕ) → drainedCall u room o ≡ called u room o drained
+
 -- ---- a release
 
 -- all but the transactions is as it was
@@ -250,6 +261,16 @@ pub record Started (s : Setup) (a : Answer) : Type 0 where
   pub line : a .link .line ≡ freshLine
   pub exchange : a .link .exchange ≡ freshExchange (s .last)
   pub block : a .link .block ≡ 1
+  -- in plain words: no place is in use; of the saved header, "none at a start"; no message is being sent; the "last transaction number" is the
+  -- one of the settings, and none of an own transaction with a verdict is passed over; the line is idle, and no block is held
+  pub no-own : (p : ℕ) → ownOf (a .link) p ≡ reading.NoPlace
+  pub no-incoming : (p : ℕ) → incomingOf (a .link) p ≡ arrival.NoPlace
+  pub none-saved : a .link .exchange .saved .any ≡ false
+  pub none-sent : a .link .exchange .sending ≡ sending.Nothing
+  pub last : a .link .exchange .numbers .last ≡ s .last
+  pub latest : a .link .exchange .numbers .latest ≡ 0
+  pub idle : a .link .line .phase ≡ phase.Idle
+  pub none-held : a .link .line .held ≡ false
   pub done : a .outcome ≡ outcome.Done
   pub count : a .count ≡ 0
   pub note : noteNumber (a .note) ≡ 20

@@ -23,7 +23,7 @@ use Rattle.line.specs.declared.step.Told.{Told}
 use Rattle.line.specs.declared.step.Told.the-variants as told
 use Rattle.line.specs.declared.step.Remark.{Remark}
 use Rattle.exchange.specs.Flags.{noFlags}
-use Rattle.exchange.specs.Send.{outgoingOf, sentOf, failedOf}
+use Rattle.exchange.specs.Send.{outgoingOf, putOutOf, sentOf, failedOf}
 use Rattle.exchange.specs.Tick.{tickOf as ticksOf}
 use Rattle.exchange.specs.Judge.{Judging, judgeOf}
 use Rattle.exchange.specs.declared.Flags.{Flags}
@@ -33,7 +33,7 @@ use Rattle.exchange.specs.declared.Outgoing.the-variants as outgoing
 use Rattle.exchange.specs.declared.Changed.{Changed}
 use Rattle.exchange.specs.declared.Judged.{Judged}
 use Rattle.link.specs.Answer.{noteBy}
-use Rattle.link.specs.State.{withHeard, answerAs}
+use Rattle.link.specs.State.{withHeard, withExchange, answerAs}
 use Rattle.link.specs.Courier.{courierOf}
 use Rattle.link.specs.declared.Carried.{Carried}
 use Rattle.link.specs.declared.Midway.{Midway}
@@ -81,6 +81,10 @@ untold x t = midway x t noFlags
 abbrev pub changedTo : Changed → Note → Midway
 changedTo c t = midway (c .exchange) t (c .flags)
 
+-- a block goes out: they are told so of the message's last one
+unfoldable pub puttingOut : Bool → Exchange → Exchange
+puttingOut more x = cond more x (putOutOf x)
+
 -- a block was acknowledged: they are told so of the message's last one
 unfoldable pub acknowledged : Bool → Exchange → Note → Midway
 acknowledged more x t = cond more (untold x t) (changedTo (sentOf x) t)
@@ -103,6 +107,7 @@ telling m room = record { midway = m; room = room }
 -- what the device tells; t is the note of what it remarks
 abbrev pub tells : Told → Note → Link → List ℕ → Telling
 tells told.Nothing t u room = telling (untold (u .exchange) t) room
+tells told.PutOut t u room = telling (untold (puttingOut (hasNext u) (u .exchange)) t) room
 tells told.Sent t u room = telling (acknowledged (hasNext u) (u .exchange) t) room
 tells told.Failed t u room = telling (changedTo (failedOf (u .exchange)) t) room
 tells (told.Up n) t u room = telling (judgedAs (judging u n room .answer)) (judging u n room .room)
@@ -164,9 +169,9 @@ blockIn (outgoing.Message h n) k room = bytesBy (cutOf h n k) room
 abbrev pub blockBytes : Link → List ℕ → List ℕ
 blockBytes u room = blockIn (outgoingOf (u .exchange)) (u .block) room
 
--- "EOT puts out the whole block": nothing else leaves, is judged or settles in that call
-abbrev pub blockOut : Link → List ℕ → List ℕ → Left
-blockOut u room o = leaves (blockBytes u room) u outcome.Done (untold (u .exchange) note.Nothing) room o
+-- "EOT puts out the whole block": nothing else leaves, is judged or settles in that call. r is what the transactions made of it.
+abbrev pub blockOut : Link → Telling → List ℕ → List ℕ → Left
+blockOut u r room o = leaves (blockBytes u room) (withExchange u (r .midway .exchange)) outcome.Done (r .midway) (r .room) o
 
 -- it excludes everything else in its call
 abbrev pub unlessBlock : Out → Left → Left → Left
@@ -192,8 +197,12 @@ abbrev pub stepped : Bool → Link → Heard → List ℕ → List ℕ → Left
 stepped ticks u h room o = onward (h .step .out) ticks (h .step .told) (hears u h) (hearing (h .step .told) (h .step .remark) (hears u h) room) o
 
 -- the whole block goes out at a byte alone
+abbrev pub byteOnward : Out → Told → Link → Telling → List ℕ → List ℕ → Left
+byteOnward p t u r room o = unlessBlock p (blockOut u r room o) (onward p false t u r o)
+
 abbrev pub byteStepped : Link → Heard → List ℕ → List ℕ → Left
-byteStepped u h room o = unlessBlock (h .step .out) (blockOut (hears u h) room o) (stepped false u h room o)
+byteStepped u h room o =
+    byteOnward (h .step .out) (h .step .told) (hears u h) (hearing (h .step .told) (h .step .remark) (hears u h) room) room o
 
 abbrev pub byteStep : Link → ℕ → Heard
 byteStep u b = byteOf (u .settings .limits) (u .line) b (u .received)

@@ -289,7 +289,7 @@ pub record Delivered (o : List ℕ) (q : Primary) (d : List ℕ) (h : Header) (p
   pub again : Again o (z .sender) (z .receiver)
   -- own place p of its sender has it: a reply is awaited, or "1 sent (W = 0, all acknowledged)"
   pub standing : ownOf (z .sender .link) p ≡ own.Place h (cond (q .w) Open (Given Sent)) noReply
-  -- "A reply is awaited, and T3 runs, from the ACK of the primary's last block.": that ACK came in the last call
+  -- ".. and T3 runs, from the ACK of the primary's last block.": that ACK came in the last call
   pub awaited : q .w ≡ true → Awaited (again .here) p h × (again .here .own p .since ≡ 0)
   -- a place of its receiver shows a complete message of as many bytes, to which a reply is owed if W = 1
   pub place : ℕ

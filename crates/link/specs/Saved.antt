@@ -18,6 +18,7 @@ use Rattle.link.specs.Moves.{noted, GoesUp}
 abbrev pub savedTold : ℕ → SavedSeen → exchange.Call → SavedSeen
 savedTold n s (exchange.block h d) = savedBy n s h
 savedTold n s exchange.tick = s
+savedTold n s exchange.put-out = s
 savedTold n s exchange.acknowledged = s
 savedTold n s exchange.failed = s
 savedTold n s (exchange.request r) = s

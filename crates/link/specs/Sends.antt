@@ -18,6 +18,7 @@ use Rattle.line.specs.History.{Ours, none, enquired, leaving, left}
 use Rattle.place.specs.OwnHistory as own
 use Rattle.exchange.specs.Request.{Request, primary, reply, free-own, free-incoming}
 use Rattle.exchange.specs.Posting.{Post, nothingPosted, postTaken}
+use Rattle.exchange.specs.Underway.{OnItsWay}
 use Rattle.exchange.specs.History as exchange
 use Rattle.exchange.specs.declared.OwnReading.{OwnReading}
 use Rattle.exchange.specs.declared.IncomingReading.{IncomingReading}
@@ -28,7 +29,7 @@ use Rattle.link.specs.History.{Call, byte, tick, drained, request, kept,
 use Rattle.link.specs.Inside.{Reached, Back}
 use Rattle.link.specs.Door.{bytesLeft, Watch, AtDoor, made}
 use Rattle.link.specs.Verdicts.{Accepted, Tells, replyStands}
-use Rattle.link.specs.Moves.{Acknowledges, ReplySent}
+use Rattle.link.specs.Moves.{FirstOut, Acknowledges, ReplySent}
 use Rattle.link.specs.Device.{comes}
 use Rattle.link.specs.declared.Outcome.{Outcome}
 use Rattle.link.specs.declared.Outcome.the-variants as outcome
@@ -120,6 +121,24 @@ abbrev pub NextExactly : Type 0
 NextExactly =
     (t : Track) (w : Reached t) → (hasNext (t .link) ≡ true) ↔ ((sendingOf (t .link) ≡ true) × (senderSeen t w .block < blocksOf (senderSeen t w)))
 
+-- ---- when its last block is out
+
+-- EOT answered the ENQ of its last block
+pub record LastOut (t : Track) (s : Sender) (m : Made) : Type 0 where
+  pub accepted : Accepted t m
+  pub came : comes EOT (m .call) ≡ true
+  pub awaited : t .seen .ours ≡ enquired
+  pub last : s .block ≡ blocksOf s
+
+-- The transactions are told so exactly then; and a request awaits its reply "from the call that first puts out the bytes of its last block"
+-- (02, request 1): it is out exactly by that, if W = 1 and it was not out before.
+pub record OutAtLast (t : Track) (s : Sender) (m : Made) : Type 0 where
+  pub told : Tells t m exchange.put-out ↔ LastOut t s m
+  pub primary : (p : ℕ) → p < 4 → FirstOut t m p ↔ (LastOut t s m × (t .own p .request ≡ own.underway) × (t .own p .header .w ≡ true))
+
+abbrev pub LastPutOut : Type 0
+LastPutOut = (t : Track) (w : Reached t) (m : Made) → OutAtLast t (senderSeen t w) m
+
 -- ---- when it has been sent
 
 -- the ACK of its last block: one that was waited for, while the last of its blocks is due
@@ -129,11 +148,11 @@ pub record LastAck (t : Track) (s : Sender) (m : Made) : Type 0 where
   pub awaited : t .seen .ours ≡ left
   pub last : s .block ≡ blocksOf s
 
--- The transactions are told so exactly then; by it the primary of own place p is acknowledged exactly while its request is underway, and
--- our reply of incoming place p is sent exactly while it is on its way.
+-- The transactions are told so exactly then; by it the primary of own place p is acknowledged exactly while its request is underway or out,
+-- and our reply of incoming place p is sent exactly while it is on its way.
 pub record SentAtLast (t : Track) (s : Sender) (m : Made) : Type 0 where
   pub told : Tells t m exchange.acknowledged ↔ LastAck t s m
-  pub primary : (p : ℕ) → p < 4 → Acknowledges t m p ↔ (LastAck t s m × (t .own p .request ≡ own.underway))
+  pub primary : (p : ℕ) → p < 4 → Acknowledges t m p ↔ (LastAck t s m × OnItsWay (t .own p .request))
   pub reply : (p : ℕ) → p < 4 → ReplySent t m p ↔ (LastAck t s m × (replyStands t p ≡ stage.OnItsWay))
 
 abbrev pub LastAcknowledged : Type 0

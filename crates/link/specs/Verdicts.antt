@@ -9,10 +9,10 @@ use mathlib.Core.List.{List, [], _∷_}
 use mathlib.Core.Logic.{_↔_, _⊎_}
 use lib.ListN.{length}
 use Rattle.header.specs.declared.header.Header.{Header}
-use Rattle.place.specs.Message.{Continues, Whole, noHeader, firstOf}
+use Rattle.place.specs.Message.{Routed, Continues, Whole, noHeader, firstOf}
 use Rattle.place.specs.Own.{noReply, ownStanding}
 use Rattle.place.specs.OwnHistory as own
-use Rattle.place.specs.OwnTheorems.{Asked, Earned, onReply, ReplyAsKept, NoneToShow, AllZeros, verdictLimit, silenceLimit}
+use Rattle.place.specs.OwnTheorems.{Received, Asked, Earned, onReply, ReplyAsKept, NoneToShow, AllZeros, BeginsReply, GoesOn, Awaited, verdictLimit, silenceLimit}
 use Rattle.place.specs.IncomingTheorems.{Breaks}
 use Rattle.place.specs.declared.Verdict.{Verdict}
 use Rattle.place.specs.declared.Verdict.the-variants.{Answered}
@@ -23,7 +23,7 @@ use Rattle.room.specs.Room.{bytesIn}
 use Rattle.room.specs.declared.Message.the-variants as message
 use Rattle.exchange.specs.Exchange.{ownPlace, incomingPlace}
 use Rattle.exchange.specs.Reading.{headerBy, stageBy, hasEnded}
-use Rattle.exchange.specs.Rules.{OfMessage}
+use Rattle.exchange.specs.Rules.{OfReply, OfMessage, FreeAt}
 use Rattle.exchange.specs.Theorems.{Reached as ExchangeReached}
 use Rattle.exchange.specs.declared.OwnReading.{OwnReading}
 use Rattle.exchange.specs.declared.OwnReading.the-variants as reading
@@ -33,7 +33,7 @@ use Rattle.exchange.specs.declared.ReplyStage.{ReplyStage}
 use Rattle.exchange.specs.declared.ReplyStage.the-variants.{NotOwed, Owed, OnItsWay}
 use Rattle.link.specs.Answer.{accepted}
 use Rattle.link.specs.Reading.{ownOf, incomingOf, replyData, incomingData, sendingOf}
-use Rattle.exchange.specs.Refusals.{IsSending}
+use Rattle.exchange.specs.Refusals.{IsSending, OwnFree, NotReady, NotWanted, RepliedBefore}
 use Rattle.exchange.specs.Request.{free-own, free-incoming}
 use Rattle.exchange.specs.History as exchange
 use Rattle.exchange.specs.Watching.{replyFrom}
@@ -67,8 +67,8 @@ VerdictExactly = AtEach (λ t p. (v : Verdict) → (standing t p ≡ Given v) �
 
 -- "the whole reply, with the request's stream and the next function, was kept"
 pub record WholeReply (s : own.Seen) : Type 0 where
-  -- the request's last block was acknowledged, and it asked for a reply
-  pub acknowledged : s .request ≡ own.acknowledged
+  -- the request's last block was "acknowledged, or proved received by its reply" (02, request 1), and it asked for a reply
+  pub received : Received (s .request)
   pub wanted : s .header .w ≡ true
   -- the blocks kept since are a whole message: numbers 1 to n or a single 0, E on the last alone, one header else
   pub whole : Whole (s .kept)
@@ -82,6 +82,16 @@ AnsweredExactly = AtEach (λ t p. (standing t p ≡ Given Answered) ↔ WholeRep
 -- It is free exactly when no request is in it: none was accepted since the last release.
 abbrev pub FreeExactly : Type 0
 FreeExactly = AtEach (λ t p. (standing t p ≡ Free) ↔ (t .own p .request ≡ own.none))
+
+-- "or is the first block of an awaited reply", "from the call that first puts out the bytes of its last block" (02, request 1): a block that
+-- passed rule 1 is of the reply in this place, to rule 3, exactly if one is awaited by the history, no verdict is shown, and it is the
+-- reply's first block or the next.
+abbrev pub ReplyTakesExactly : Type 0
+ReplyTakesExactly =
+    AtEach (λ t p.
+    (b : Header) → Routed (termsIn t) b
+    → OfReply (ownPlace (t .link .exchange) p) b
+    ↔ (Awaited (t .own p) × (standing t p ≡ Open) × (((t .own p .kept ≡ []) × BeginsReply (t .own p .header) b) ⊎ GoesOn (t .own p) b)))
 
 -- `V` prints "`9 - 20` for a free place or one above 3": no place is read exactly where no request is,
 abbrev pub NoPlaceExactly : Type 0
@@ -182,12 +192,12 @@ pub record Decided (t : Track) (p : ℕ) : Type 0 where
   pub verdict : Verdict
   pub shown : standing t p ≡ Given verdict
 
--- "After a primary's last block is acknowledged, its verdict falls by tick T3 + 4096 x T4 + 1, and by tick T3 + 1 if no reply block was
--- kept." The ticks since that ACK are the onlooker's: each tick that was not refused adds one, and nothing else changes their number
--- (`OwnMoves`, specs/Moves.antt).
+-- "After a primary's last block is acknowledged, or proved received by its reply, its verdict falls by tick T3 + 4096 x T4 + 1, and by tick
+-- T3 + 1 if no reply block was kept." The ticks since that ACK, or that reply's first block, are the onlooker's: each tick that was not
+-- refused adds one, and nothing else changes their number (`OwnMoves`, specs/Moves.antt).
 pub record InTime (t : Track) (p : ℕ) : Type 0 where
-  pub by-limit : t .own p .request ≡ own.acknowledged → verdictLimit (termsIn t) ≤ t .own p .since → Decided t p
-  pub by-silence : t .own p .request ≡ own.acknowledged → t .own p .kept ≡ [] → silenceLimit (termsIn t) ≤ t .own p .since → Decided t p
+  pub by-limit : Received (t .own p .request) → verdictLimit (termsIn t) ≤ t .own p .since → Decided t p
+  pub by-silence : Received (t .own p .request) → t .own p .kept ≡ [] → silenceLimit (termsIn t) ≤ t .own p .since → Decided t p
 
 abbrev pub VerdictFalls : Type 0
 VerdictFalls = AtEach InTime
@@ -236,6 +246,14 @@ TakesExactly =
     (b : Header)
     → OfMessage (incomingPlace (t .link .exchange) p) b
     ↔ ((isThere t p ≡ true) × (isComplete t p ≡ false) × Continues (firstOf (t .incoming p .kept)) (length (t .incoming p .kept) + 1) b))
+
+-- "Freed places and areas are used again": the places that are free to the rules and refusals (8, 9, 25) are those that a user reads as free.
+pub record FreeRead (t : Track) (p : ℕ) : Type 0 where
+  pub own : OwnFree (t .link .exchange) p ↔ (standing t p ≡ Free)
+  pub incoming : FreeAt (t .link .exchange) p ↔ (isThere t p ≡ false)
+
+abbrev pub FreeAsRead : Type 0
+FreeAsRead = AtEach FreeRead
 
 -- the length that is read
 abbrev pub lengthBy : IncomingReading → ℕ
@@ -312,6 +330,19 @@ pub record Owes (t : Track) (p : ℕ) : Type 0 where
 
 abbrev pub OwedExactly : Type 0
 OwedExactly = AtEach Owes
+
+-- Refusals 9, 10 and 11 go by what a place is inside (`NotReady`, `NotWanted`, `RepliedBefore`, exchange/specs/Refusals.antt): it is what a user
+-- reads.
+pub record ReadyRead (t : Track) (p : ℕ) : Type 0 where
+  -- 9: "an incoming one not complete or with its reply being sent or held"
+  pub not-ready : p < 4 → NotReady (t .link .exchange) p ↔ ((isComplete t p ≡ false) ⊎ (replyStands t p ≡ OnItsWay))
+  -- 10: "reply to a primary with W = 0"
+  pub not-wanted : isThere t p ≡ true → NotWanted (t .link .exchange) p ↔ (headerBy (incomingOf (t .link) p) .w ≡ false)
+  -- 11: "a reply to this primary was accepted before, even if it failed"
+  pub replied : RepliedBefore (t .link .exchange) p ↔ (hasEnded (replyStands t p) ≡ true)
+
+abbrev pub ReadyPlaces : Type 0
+ReadyPlaces = (t : Track) (p : ℕ) → ReadyRead t p
 
 -- "at most one verdict and keeps it until released": the whole place is as it was
 pub record EndStays (before after : Track) (p : ℕ) : Type 0 where

@@ -6,8 +6,9 @@
 //
 //   O:SOURCE:W:STREAM:FUNCTION:DATA   opens a primary
 //   R:PLACE:FUNCTION:DATA             replies to the message in an incoming place
-//   A                                 the last block of the message being sent was acknowledged
-//   F                                 a block of it failed
+//   P                                 the last block of the message being sent was put out
+//   A                                 it was acknowledged
+//   F                                 a block of the message failed
 //   U:BYTES                           a block went up: ten header bytes, and its data
 //   T100                              so many ticks
 //   LO:PLACE  LI:PLACE                releases an own place, an incoming one
@@ -23,6 +24,7 @@
 // It prints 4, and nothing of the calls, if a setting is out of its range. Else it prints 0, and for each CALL a space and:
 //
 //   O, R    the number of a refusal, or PLACE:HEADER:LENGTH of the message that is being sent, its block number and E being 0
+//   P       `-`
 //   A, F    flags, or `-`
 //   U       the note, and if there are flags, `/` and flags
 //   T       for each tick with flags, a comma between two: which of these ticks it is, `/` and flags; `-` if none had any
@@ -74,6 +76,7 @@ enum Call {
         function: u8,
         count: u16,
     },
+    PutOut,
     Sent,
     Failed,
     Block {
@@ -194,6 +197,7 @@ fn read_call(field: &[u8], bytes: &mut [u8; 5000]) -> Call {
 // A call that is a letter alone.
 fn read_letter(letter: u8) -> Call {
     match letter {
+        b'P' => Call::PutOut,
         b'A' => Call::Sent,
         b'F' => Call::Failed,
         b'M' => Call::Look(Look::Areas),
@@ -379,6 +383,7 @@ fn make(
             function,
             count,
         } => asked(clerk::reply(exchange, place, function, text::first(bytes, count), room)),
+        Call::PutOut => put_out(exchange),
         Call::Sent => changed(clerk::sent(exchange)),
         Call::Failed => changed(clerk::failed(exchange)),
         Call::Block { count } => judge(terms, exchange, text::first(bytes, count), room),
@@ -424,6 +429,12 @@ fn show_outgoing(outgoing: Outgoing) {
 fn show_header(header: Header) {
     let ten = header.bytes();
     show::hex(&ten);
+}
+
+// The last block leaves: no flag tells of it.
+fn put_out(exchange: Exchange) -> Exchange {
+    show::text(b"-");
+    clerk::put_out(exchange)
 }
 
 // The end of a sending.

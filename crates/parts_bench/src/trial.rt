@@ -259,6 +259,7 @@ fn show_told(step: Step, received: &[u8; 256]) {
     let told = step.told;
     match told {
         Told::Nothing => (),
+        Told::PutOut => (), // what it put out shows it
         Told::Sent => show::text(b"/sent"),
         Told::Failed => show::text(b"/failed"),
         Told::Up(n) => show_block(n, received),

@@ -13,12 +13,17 @@ use Rattle.place.specs.Message.{Continues, Whole, firstOf}
 use Rattle.place.specs.Incoming.{primaryOf, lengthAt, takesAt, incomingOffered, incomingLength}
 use Rattle.place.specs.Range.{lengthInRange, incomingStageInRange}
 use Rattle.place.specs.IncomingHistory.{Event, begin, block, tick, answer, sent, failed, release, nothing, arriving, showsAt, shows, step, Seen, Track}
-use Rattle.place.specs.IncomingTheorems.{isComplete, Breaks, ShowsExactly, CompleteExactly, TakesExactly, MessageShown, spares, StaysComplete, CompleteStays, IncomingReachedInRange}
+use Rattle.place.specs.IncomingTheorems.{isComplete, Breaks, IncomingTicked, ShowsExactly, CompleteExactly, TakesExactly, MessageShown, spares, StaysComplete, CompleteStays, IncomingReachedInRange}
 use Rattle.place.specs.declared.IncomingStage.{IncomingStage}
 use Rattle.place.specs.declared.IncomingStage.the-variants.{Free, Open, Complete, Replying, Replied}
 use Rattle.place.specs.declared.Incoming.{Incoming}
 use Rattle.place.proofs.Arrivals.{not-whole, not-broken, arriving-in-range}
 use Rattle.place.proofs.IncomingInvariant.{NoneHere, At, goes-on, always}
+
+-- ---- a tick
+
+pub incoming-ticked : IncomingTicked
+incoming-ticked c i s = record { begun = refl; kept = refl; bytes = refl; spoilt = refl; quiet = refl }
 
 -- ---- what a place shows, exactly when
 

@@ -13,7 +13,7 @@ use Rattle.place.proofs.Arrivals.{arriving-in-range}
 use Rattle.place.proofs.OwnInvariant.{At}
 use Rattle.place.proofs.OwnAlways.{always}
 use Rattle.place.specs.declared.OwnStage.{OwnStage}
-use Rattle.place.specs.declared.OwnStage.the-variants.{Free, Sending, Awaiting, Replying, Done}
+use Rattle.place.specs.declared.OwnStage.the-variants.{Free, Sending, PutOut, Awaiting, Replying, Done}
 
 -- at each stage
 within :
@@ -21,6 +21,7 @@ within :
 unfolding timerInRange lengthInRange
 within c t3 t4 Free h s g = refl
 within c t3 t4 Sending h s g = refl
+within c t3 t4 PutOut h s g = refl
 within c t3 t4 (Awaiting timer) h s g = le-leb timer 1200 (omega (arith, g .within))
 within c t3 t4 (Replying a) h s g = arriving-in-range c a _ (g .arrives) t4
 within c t3 t4 (Done v r) h s g = le-leb _ _ (g .room)

@@ -32,6 +32,7 @@ own-stage : (s : OwnStage) → ownStageInRange s ≡ true ↔ OwnStageFits s
 unfolding timerInRange lengthInRange
 own-stage own.Free = (λ e. tt, λ f. refl)
 own-stage own.Sending = (λ e. tt, λ f. refl)
+own-stage own.PutOut = (λ e. tt, λ f. refl)
 own-stage (own.Awaiting timer) = at-most timer 1200
 own-stage (own.Replying a) = arriving-fits a
 own-stage (own.Done v r) = at-most (r .length) messageLimit

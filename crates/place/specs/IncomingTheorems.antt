@@ -11,7 +11,7 @@ use Rattle.settings.specs.declared.terms.Terms.{Terms}
 use Rattle.place.specs.Message.{Continues, Whole, firstOf}
 use Rattle.place.specs.Incoming.{primaryOf, incomingLength, incomingIsFree, incomingIsOpen, incomingIsComplete, incomingIsReplied, incomingTakes, incomingAnswered, incomingSent, incomingFailed, incomingReleased}
 use Rattle.place.specs.Range.{incomingInRange}
-use Rattle.place.specs.IncomingHistory.{Event, begin, block, tick, answer, sent, failed, release, Shows, nothing, arriving, complete, replying, replied, shows, step, Seen, Track, track, atStart}
+use Rattle.place.specs.IncomingHistory.{Event, begin, block, tick, answer, sent, failed, release, Shows, nothing, arriving, complete, replying, replied, shows, step, Seen, sees, Track, track, atStart}
 use Rattle.place.specs.declared.End.{End}
 use Rattle.place.specs.declared.End.the-variants as end
 use Rattle.place.specs.declared.Incoming.{Incoming}
@@ -32,6 +32,18 @@ isComplete (replied e) = true
 -- "T4 beyond its limit breaks the message", and so does a block noted 26 or 27
 abbrev pub Breaks : Terms → Seen → Type 0
 Breaks c s = (s .spoilt ≡ true) ⊎ (c .t4 .0 < s .quiet)
+
+-- "each later tick adds 1": a tick adds one to the ticks since the last block kept, and changes nothing else that was seen.
+pub record TicksOne (before after : Seen) : Type 0 where
+  pub begun : after .begun ≡ before .begun
+  pub kept : after .kept ≡ before .kept
+  pub bytes : after .bytes ≡ before .bytes
+  pub spoilt : after .spoilt ≡ before .spoilt
+  pub quiet : after .quiet ≡ before .quiet + 1
+
+-- Each tick does, at any place and whatever was seen of it: T4's limit is in these ticks.
+abbrev pub IncomingTicked : Type 0
+IncomingTicked = (c : Terms) (i : Incoming) (s : Seen) → TicksOne s (sees {c = c} i s tick)
 
 -- What a place shows, exactly when.
 pub record ShowsExactly (c : Terms) (t : Track) : Type 0 where

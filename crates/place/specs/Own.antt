@@ -23,7 +23,7 @@ use Rattle.place.specs.declared.Arriving.{Arriving}
 use Rattle.place.specs.declared.Waited.{Waited}
 use Rattle.place.specs.declared.Waited.the-variants as waited
 use Rattle.place.specs.declared.OwnStage.{OwnStage}
-use Rattle.place.specs.declared.OwnStage.the-variants.{Free, Sending, Awaiting, Replying, Done}
+use Rattle.place.specs.declared.OwnStage.the-variants.{Free, Sending, PutOut, Awaiting, Replying, Done}
 use Rattle.place.specs.declared.Own.{Own}
 
 abbrev pub freshOwn : Own
@@ -56,6 +56,7 @@ ended o v = stageAt o (Done v noReply)
 abbrev pub standingAt : OwnStage → Standing
 standingAt Free = standing.Free
 standingAt Sending = standing.Open
+standingAt PutOut = standing.Open
 standingAt (Awaiting timer) = standing.Open
 standingAt (Replying a) = standing.Open
 standingAt (Done v r) = standing.Given v
@@ -83,6 +84,7 @@ ownHasVerdict o = givenBy (ownStanding o)
 abbrev pub keptAt : OwnStage → Reply
 keptAt Free = noReply
 keptAt Sending = noReply
+keptAt PutOut = noReply
 keptAt (Awaiting timer) = noReply
 keptAt (Replying a) = replyFrom a
 keptAt (Done v r) = r
@@ -95,6 +97,7 @@ ownKept o = keptAt (o .stage)
 abbrev pub claimedAt : OwnStage → Own → List ℕ → Own
 claimedAt Free o h = record { header = h; stage = Sending }
 claimedAt Sending o h = o
+claimedAt PutOut o h = o
 claimedAt (Awaiting timer) o h = o
 claimedAt (Replying a) o h = o
 claimedAt (Done v r) o h = o
@@ -102,13 +105,30 @@ claimedAt (Done v r) o h = o
 abbrev pub ownClaimed : Own → List ℕ → Own
 ownClaimed o h = claimedAt (o .stage) o h
 
--- "A reply is awaited, and T3 runs, from the ACK of the primary's last block."; "1 sent (W = 0, all acknowledged)"
+-- 02, request 1: "A primary with W = 1 now awaits its reply from the call that first puts out the bytes of its last block."
+unfoldable pub firstOut : Own → Own
+firstOut o = cond (primaryOf o .w) (stageAt o PutOut) o
+
+abbrev pub putOutAt : OwnStage → Own → Own
+putOutAt Free o = o
+putOutAt Sending o = firstOut o
+putOutAt PutOut o = o
+putOutAt (Awaiting timer) o = o
+putOutAt (Replying a) o = o
+putOutAt (Done v r) o = o
+
+-- the bytes of its last block leave; at a retry they left before
+abbrev pub ownPutOut : Own → Own
+ownPutOut o = putOutAt (o .stage) o
+
+-- "T3 runs, from the ACK of the primary's last block."; "1 sent (W = 0, all acknowledged)"
 unfoldable pub acknowledged : Own → Own
 acknowledged o = cond (primaryOf o .w) (stageAt o (Awaiting 0)) (ended o Sent)
 
 abbrev pub sentAt : OwnStage → Own → Own
 sentAt Free o = o
 sentAt Sending o = acknowledged o
+sentAt PutOut o = acknowledged o
 sentAt (Awaiting timer) o = o
 sentAt (Replying a) o = o
 sentAt (Done v r) o = o
@@ -120,6 +140,7 @@ ownSent o = sentAt (o .stage) o
 abbrev pub failedAt : OwnStage → Own → Own
 failedAt Free o = o
 failedAt Sending o = ended o SendFailed
+failedAt PutOut o = ended o SendFailed
 failedAt (Awaiting timer) o = o
 failedAt (Replying a) o = o
 failedAt (Done v r) o = o
@@ -148,6 +169,7 @@ replyTick c o a = replyingBy o (arrivingTick c a)
 abbrev pub tickAt : Terms → OwnStage → Own → Own
 tickAt c Free o = o
 tickAt c Sending o = o
+tickAt c PutOut o = o
 tickAt c (Awaiting timer) o = awaitTick c o timer
 tickAt c (Replying a) o = replyTick c o a
 tickAt c (Done v r) o = o
@@ -168,6 +190,7 @@ continuesReply o a h = continuesArriving (primaryOf o .device) (primaryOf o .sys
 abbrev pub takesAt : OwnStage → Own → Header → Bool
 takesAt Free o h = false
 takesAt Sending o h = false
+takesAt PutOut o h = awaits o h
 takesAt (Awaiting timer) o h = awaits o h
 takesAt (Replying a) o h = continuesReply o a h
 takesAt (Done v r) o h = false
@@ -206,6 +229,7 @@ ownOffered o h size = cond (ownTakes o h) (replied o h size) o
 abbrev pub releasedAt : OwnStage → Own → Own
 releasedAt Free o = o
 releasedAt Sending o = o
+releasedAt PutOut o = o
 releasedAt (Awaiting timer) o = o
 releasedAt (Replying a) o = o
 releasedAt (Done v r) o = stageAt o Free

@@ -9,9 +9,9 @@ use lib.ListN.{length}
 use Rattle.header.specs.declared.header.Header.{Header}
 use Rattle.settings.specs.declared.terms.Terms.{Terms}
 use Rattle.place.specs.Message.{Routed, StartsMessage, Continues, LacksData, Whole, firstOf}
-use Rattle.place.specs.Own.{primaryOf, ownStanding, ownIsFree, ownHasVerdict, ownKept}
+use Rattle.place.specs.Own.{primaryOf, ownStanding, ownIsFree, ownHasVerdict, ownKept, ownTakes}
 use Rattle.place.specs.Range.{ownInRange}
-use Rattle.place.specs.OwnHistory.{Event, claim, sent, failed, tick, release, block, none, underway, acknowledged, lost, Answer, passed, kept, spoilt, answerTo, Seen, Track, track, atStart, run}
+use Rattle.place.specs.OwnHistory.{Event, claim, put-out, sent, failed, tick, release, block, Request, none, underway, out, acknowledged, proved, lost, Answer, passed, kept, spoilt, answerTo, Seen, sees, Track, next, track, atStart, run}
 use Rattle.place.specs.declared.Verdict.{Verdict}
 use Rattle.place.specs.declared.Reply.{Reply}
 use Rattle.place.specs.declared.Verdict.the-variants.{Sent, Answered, Declined, Other, Broken, NoReply, SendFailed}
@@ -36,9 +36,13 @@ pub record Declines (request reply : Header) : Type 0 where
   pub stream : reply .stream ≡ request .stream
   pub function : reply .function ≡ 0
 
--- a reply was asked for, and the request's last block was acknowledged
+-- the request's last block was "acknowledged, or proved received by its reply" (02, request 1)
+abbrev pub Received : Request → Type 0
+Received r = (r ≡ acknowledged) ⊎ (r ≡ proved)
+
+-- and a reply was asked for
 pub record Asked (s : Seen) : Type 0 where
-  pub acked : s .request ≡ acknowledged
+  pub received : Received (s .request)
   pub wanted : s .header .w ≡ true
 
 -- the blocks kept since are a whole message
@@ -62,8 +66,9 @@ Earned c s Declined = Complete s × Declines (s .header) (firstOf (s .kept))
 Earned c s Other = Complete s × (Answers (s .header) (firstOf (s .kept)) → ⊥) × (Declines (s .header) (firstOf (s .kept)) → ⊥)
 -- "5 broken"
 Earned c s Broken = Asked s × (Whole (s .kept) → ⊥) × Breaks c s
--- "6 no reply in T3": no block kept, none that broke the reply, and T3 exceeded
-Earned c s NoReply = Asked s × (s .kept ≡ []) × (s .spoilt ≡ false) × (c .t3 .0 < s .since)
+-- "6 no reply in T3": acknowledged, "T3 runs, from the ACK"; no block kept, none that broke the reply, and T3 exceeded
+Earned c s NoReply =
+    (s .request ≡ acknowledged) × (s .header .w ≡ true) × (s .kept ≡ []) × (s .spoilt ≡ false) × (c .t3 .0 < s .since)
 -- "7 send failed"
 Earned c s SendFailed = s .request ≡ lost
 
@@ -110,11 +115,12 @@ ArrivingShown =
     (c : Terms) (t : Track) → Reached c t → Asked (t .seen) → ownStanding (t .own) ≡ Open → 1 ≤ length (t .seen .kept)
     → ReplyAsKept (t .seen) (ownKept (t .own))
 
--- There is no block of a reply to show: no request is there, or it is still being sent or held; it was acknowledged, and none was kept
--- since; or the verdict is "1 sent", "5 broken", "6 no reply in T3" or "7 send failed".
+-- There is no block of a reply to show: no request is there, or it is still being sent or held, its last block put out or not; it was
+-- acknowledged, and none was kept since; or the verdict is "1 sent", "5 broken", "6 no reply in T3" or "7 send failed".
 pub data NoneToShow (s : Seen) (z : Standing) : Type 0 where
   no-request : s .request ≡ none → NoneToShow s z
-  not-acked : s .request ≡ underway → NoneToShow s z
+  not-out : s .request ≡ underway → NoneToShow s z
+  not-acked : s .request ≡ out → NoneToShow s z
   none-kept : s .request ≡ acknowledged → s .kept ≡ [] → NoneToShow s z
   no-whole : (v : Verdict) → onReply v ≡ false → z ≡ Given v → NoneToShow s z
 
@@ -132,6 +138,12 @@ NothingShown = (c : Terms) (t : Track) → Reached c t → NoneToShow (t .seen) 
 abbrev pub RequestShown : Type 0
 RequestShown = (c : Terms) (t : Track) → Reached c t → (ownStanding (t .own) ≡ Free → ⊥) → primaryOf (t .own) ≡ t .seen .header
 
+-- And it stays: nothing that comes changes it, but the next request that is accepted where there is none.
+abbrev pub HeaderStays : Type 0
+HeaderStays =
+    (c : Terms) (t : Track) (e : Event c) → ((h : List ℕ) → e ≡ claim h → t .seen .request ≡ none → ⊥)
+    → next t e .seen .header ≡ t .seen .header
+
 -- ---- what becomes of a block
 
 -- "the first block of an awaited reply (same system bytes, even function, number 1, or 0 with E = 1)"
@@ -147,9 +159,13 @@ pub record GoesOn (s : Seen) (b : Header) : Type 0 where
   pub device : b .device ≡ s .header .device
   pub following : Continues (firstOf (s .kept)) (length (s .kept) + 1) b
 
+-- a reply is awaited "from the call that first puts out the bytes of its last block" (02, request 1), where W = 1
+abbrev pub Awaited : Seen → Type 0
+Awaited s = (s .request ≡ out) ⊎ Asked s
+
 -- the block is the reply's: a reply is awaited, no verdict is shown, and this is its first block or the next
 pub record Due (t : Track) (b : Header) : Type 0 where
-  pub asked : Asked (t .seen)
+  pub awaited : Awaited (t .seen)
   pub undecided : ownStanding (t .own) ≡ Open
   pub fits : ((t .seen .kept ≡ []) × BeginsReply (t .seen .header) b) ⊎ GoesOn (t .seen) b
 
@@ -163,6 +179,10 @@ Becomes t b size passed = Due t b → ⊥
 Becomes t b size kept = Due t b × (Spoils (t .seen) b size → ⊥)
 Becomes t b size spoilt = Due t b × Spoils (t .seen) b size
 
+-- A block that passed rule 1 is taken for this place's reply exactly if it is due: by this rule 3 looks for its place.
+abbrev pub OwnTakesExactly : Type 0
+OwnTakesExactly = (c : Terms) (t : Track) → Reached c t → (b : Header) → Routed c b → (ownTakes (t .own) b ≡ true) ↔ Due t b
+
 -- A block that passed rule 1 is kept, breaks the reply or passes by exactly when it should: what the onlooker sees of blocks is
 -- as 01 says.
 abbrev pub AnswerExactly : Type 0
@@ -174,6 +194,7 @@ AnswerExactly =
 
 abbrev pub spares : {c : Terms} → Event c → Bool
 spares (claim h) = true
+spares put-out = true
 spares sent = true
 spares failed = true
 spares tick = true
@@ -193,6 +214,21 @@ OneVerdict =
 
 -- ---- and in time
 
+-- "A timer starts at 0, each later tick adds 1": a tick adds one to the ticks since the ACK and one to those since the last block kept, and
+-- changes nothing else that was seen.
+pub record TicksOne (before after : Seen) : Type 0 where
+  pub request : after .request ≡ before .request
+  pub header : after .header ≡ before .header
+  pub kept : after .kept ≡ before .kept
+  pub bytes : after .bytes ≡ before .bytes
+  pub spoilt : after .spoilt ≡ before .spoilt
+  pub since : after .since ≡ before .since + 1
+  pub quiet : after .quiet ≡ before .quiet + 1
+
+-- Each tick does, at any place and whatever was seen of it: the limits below are in these ticks.
+abbrev pub OwnTicked : Type 0
+OwnTicked = (c : Terms) (o : Own) (s : Seen) → TicksOne s (sees {c = c} o s tick)
+
 -- "by tick T3 + 4096 x T4 + 1"
 abbrev pub verdictLimit : Terms → ℕ
 verdictLimit c = c .t3 .0 + 4096 * c .t4 .0 + 1
@@ -205,10 +241,21 @@ pub record Decided (t : Track) : Type 0 where
   pub verdict : Verdict
   pub shown : ownStanding (t .own) ≡ Given verdict
 
--- Ticks are counted from the ACK of the request's last block, and nothing that comes sets the count back.
+-- Ticks are counted from the ACK of the request's last block, or from the block that proved it received, and nothing that comes sets the
+-- count back.
 pub record InTime (c : Terms) (t : Track) : Type 0 where
-  pub by-limit : t .seen .request ≡ acknowledged → verdictLimit c ≤ t .seen .since → Decided t
-  pub by-silence : t .seen .request ≡ acknowledged → t .seen .kept ≡ [] → silenceLimit c ≤ t .seen .since → Decided t
+  pub by-limit : Received (t .seen .request) → verdictLimit c ≤ t .seen .since → Decided t
+  pub by-silence : Received (t .seen .request) → t .seen .kept ≡ [] → silenceLimit c ≤ t .seen .since → Decided t
+
+-- A request that is out, or was proved received, asked for a reply; of one that is out no block of it came yet; and of one that was proved
+-- received one did, and was kept or broke it.
+pub record OutSays (s : Seen) : Type 0 where
+  pub wanted : (s .request ≡ out) ⊎ (s .request ≡ proved) → s .header .w ≡ true
+  pub none-yet : s .request ≡ out → (s .kept ≡ []) × (s .spoilt ≡ false)
+  pub one-came : s .request ≡ proved → (1 ≤ length (s .kept)) ⊎ (s .spoilt ≡ true)
+
+abbrev pub OutOnly : Type 0
+OutOnly = (c : Terms) (t : Track) → Reached c t → OutSays (t .seen)
 
 abbrev pub VerdictFalls : Type 0
 VerdictFalls = (c : Terms) (t : Track) → Reached c t → InTime c t

@@ -30,6 +30,7 @@ arrivingInRange a = timerInRange (a .timer) && leb (a .next) nextLimit && length
 abbrev pub ownStageInRange : OwnStage → Bool
 ownStageInRange own.Free = true
 ownStageInRange own.Sending = true
+ownStageInRange own.PutOut = true
 ownStageInRange (own.Awaiting timer) = timerInRange timer
 ownStageInRange (own.Replying a) = arrivingInRange a
 ownStageInRange (own.Done v r) = lengthInRange (r .length)
@@ -57,6 +58,7 @@ pub record ArrivingFits (a : Arriving) : Type 0 where
 abbrev pub OwnStageFits : OwnStage → Type 0
 OwnStageFits own.Free = Unit {0}
 OwnStageFits own.Sending = Unit {0}
+OwnStageFits own.PutOut = Unit {0}
 OwnStageFits (own.Awaiting timer) = timer ≤ 1200
 OwnStageFits (own.Replying a) = ArrivingFits a
 OwnStageFits (own.Done v r) = r .length ≤ messageLimit

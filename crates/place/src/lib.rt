@@ -3,7 +3,7 @@
 // An own place holds a primary of ours from the moment it is accepted until its verdict is released. An incoming place holds a
 // message of the far end from its first block until it is released or dropped. Each is a value: an event takes the place and
 // hands the next one back. A place knows nothing of the line, of other places, or of where bytes lie: it is told that its
-// primary was acknowledged or failed, is offered blocks, and counts ticks.
+// primary's last block was put out, was acknowledged or failed, is offered blocks, and counts ticks.
 //
 // The model: types here, definitions and statements in `specs/`, and the proofs about them. The functions are crate `life`.
 use header::Header;
@@ -45,6 +45,8 @@ pub enum OwnStage {
     Free,
     // The primary is being sent or held.
     Sending,
+    // The same, and the bytes of its last block have left: with W = 1 the reply is awaited from then on (02, request 1).
+    PutOut,
     // Its last block was acknowledged, so many ticks ago (T3).
     Awaiting { timer: u32 },
     // Blocks of the reply are kept, and more are to come.

@@ -82,6 +82,7 @@ fn own_timer(place: Own) -> u64 {
     match stage {
         OwnStage::Free => 0,
         OwnStage::Sending => 0,
+        OwnStage::PutOut => 0,
         OwnStage::Awaiting { timer } => timer as u64,
         OwnStage::Replying(_) => 0,
         OwnStage::Done {

@@ -16,13 +16,13 @@ use Rattle.room.specs.Room.{wholeRoom, hasPlace, inArea, lies, filled, keptIn, 
 use Rattle.place.specs.Fate.{startsMessage, beginsReply, beginsPrimary, lacksData, tooLong, fateOf}
 use Rattle.place.specs.Arriving.{arrivingTick, sameKind, continuesArriving}
 use Rattle.place.specs.Incoming.{begins, openTick, continuesHere, goesOn, incomingOffered}
-use Rattle.place.specs.Own.{ended, acknowledged, awaitTick, replyTick, awaits, continuesReply, verdictOf, replied, ownOffered}
+use Rattle.place.specs.Own.{ended, firstOut, acknowledged, awaitTick, replyTick, awaits, continuesReply, verdictOf, replied, ownOffered}
 use Rattle.place.specs.Range.{timerInRange, lengthInRange, arrivingInRange}
 use Rattle.table.specs.Find.{firstFrom, firstOf}
 use Rattle.table.specs.Incoming.{freeIncoming, messageFor, alike, openAlike}
 use Rattle.table.specs.Number.{numberOf, heldNumber, following, among, firstAfter, nextNumber}
 use Rattle.table.specs.Own.{freeOwn, replyFor}
-use Rattle.exchange.specs.Exchange.{gotVerdict, latestAfter, putOwn, putIncoming, withSending, savedNow}
+use Rattle.exchange.specs.Exchange.{gotVerdict, latestAfter, putOwn, putIncoming, withSending, sentBehind, putReplied, savedNow}
 use Rattle.exchange.specs.Judge.{thrown, isMisrouted, sameBytes, isSaved, isDuplicate, replyBlock, messageBlock, beginsAt, takesPlace, primaryBlock, orPrimary, noReplyBlock, newBlock, judgeOf}
 use Rattle.exchange.specs.Range.{ownsInRange, incomingsInRange, messageInRange, exchangeInRange}
 use Rattle.exchange.specs.Reading.{ownReading, wanted, incomingReading}
@@ -30,7 +30,7 @@ use Rattle.exchange.specs.Request.{refusedBy, refused, badPrimary, badFunction,
 use Rattle.exchange.specs.Send.{endedOwn, endedReply}
 use Rattle.exchange.specs.Tick.{wasDropped, tickOf, ownsTimed, incomingsTimed, isStill}
 use Rattle.link.specs.Call.{freeCall}
-use Rattle.link.specs.Run.{acknowledged as acknowledged-link}
+use Rattle.link.specs.Run.{puttingOut, acknowledged as acknowledged-link}
 use Rattle.link.specs.Setup.{rangedOf, settingsInRange}
 use Rattle.link.specs.State.{linkInRange, outputShort as outputShort-link, roomFits, gateOf}
 use Rattle.script.specs.Command.{startBy, openBy, replyBy, releaseBy, bytesBy, ticksBy, verdictBy, drainedBy, commandBy, lineRead}
@@ -43,14 +43,18 @@ use Rattle.talk.specs.Answer.{startShown, lineDone}
 use Rattle.talk.specs.Run.{bytesRun, ticksRun}
 use Rattle.bytes.specs.Bytes.{indexAfter, indexOf, slice}
 use Rattle.talk.specs.Listing.{talked, ListingPrinted}
+use Rattle.talk.specs.Overtaken.{OvertakenPrinted}
 use Rattle.talk.specs.Round.{RoundPrinted}
 
-runs : ListingPrinted × RoundPrinted
-unfolding part splice onFront filledWith plainSum checksumOf sumWith panelInRange takenOf limitsInRange between messagePanelInRange agreedOf termsInRange ticked holding spent retryOf giveWay eotByte ackByte lengthByte lowByte bodyByte idleByte settleIdle waitInRange arrivalInRange bodyInRange headerBytes headerOf blockCount partLength hasBlock headerAt cutOf framed outputShort lengthGood refusedWrite takenWrite writeOf sumsAgree readSized readOf wholeRoom hasPlace inArea lies filled keptIn bytesAt bytesIn front startsMessage beginsReply beginsPrimary sameKind continuesArriving arrivingTick lacksData tooLong fateOf begins openTick continuesHere goesOn incomingOffered ended acknowledged awaitTick replyTick awaits continuesReply verdictOf replied ownOffered timerInRange lengthInRange arrivingInRange firstFrom firstOf freeIncoming messageFor alike openAlike numberOf heldNumber following among firstAfter nextNumber freeOwn replyFor gotVerdict latestAfter putOwn putIncoming withSending savedNow thrown isMisrouted sameBytes isSaved isDuplicate replyBlock messageBlock beginsAt takesPlace primaryBlock orPrimary noReplyBlock newBlock judgeOf ownsInRange incomingsInRange messageInRange exchangeInRange ownReading wanted incomingReading refusedBy refused badPrimary badFunction dataLong notReady claimedAt openFree openOf replyAccepted replyReady replyOf releaseOwn releaseIncoming endedOwn endedReply wasDropped tickOf ownsTimed incomingsTimed isStill freeCall acknowledged-link rangedOf settingsInRange linkInRange outputShort-link roomFits gateOf startBy openBy replyBy releaseBy bytesBy ticksBy verdictBy drainedBy commandBy lineRead fieldOf behindOf letterOf digitOf areDigits isData byteOf dataOf glyphOf hexOf withDigit withDigits numberOf-text numberText dataFits startShown lineDone bytesRun ticksRun indexAfter indexOf slice talked
-runs = (refl, refl)
+runs : ListingPrinted × RoundPrinted × OvertakenPrinted
+unfolding part splice onFront filledWith plainSum checksumOf sumWith panelInRange takenOf limitsInRange between messagePanelInRange agreedOf termsInRange ticked holding spent retryOf giveWay eotByte ackByte lengthByte lowByte bodyByte idleByte settleIdle waitInRange arrivalInRange bodyInRange headerBytes headerOf blockCount partLength hasBlock headerAt cutOf framed outputShort lengthGood refusedWrite takenWrite writeOf sumsAgree readSized readOf wholeRoom hasPlace inArea lies filled keptIn bytesAt bytesIn front startsMessage beginsReply beginsPrimary sameKind continuesArriving arrivingTick lacksData tooLong fateOf begins openTick continuesHere goesOn incomingOffered ended firstOut acknowledged awaitTick replyTick awaits continuesReply verdictOf replied ownOffered timerInRange lengthInRange arrivingInRange firstFrom firstOf freeIncoming messageFor alike openAlike numberOf heldNumber following among firstAfter nextNumber freeOwn replyFor gotVerdict latestAfter putOwn putIncoming withSending sentBehind putReplied savedNow thrown isMisrouted sameBytes isSaved isDuplicate replyBlock messageBlock beginsAt takesPlace primaryBlock orPrimary noReplyBlock newBlock judgeOf ownsInRange incomingsInRange messageInRange exchangeInRange ownReading wanted incomingReading refusedBy refused badPrimary badFunction dataLong notReady claimedAt openFree openOf replyAccepted replyReady replyOf releaseOwn releaseIncoming endedOwn endedReply wasDropped tickOf ownsTimed incomingsTimed isStill freeCall puttingOut acknowledged-link rangedOf settingsInRange linkInRange outputShort-link roomFits gateOf startBy openBy replyBy releaseBy bytesBy ticksBy verdictBy drainedBy commandBy lineRead fieldOf behindOf letterOf digitOf areDigits isData byteOf dataOf glyphOf hexOf withDigit withDigits numberOf-text numberText dataFits startShown lineDone bytesRun ticksRun indexAfter indexOf slice talked
+runs = (refl, refl, refl)
 
 pub listing-printed : ListingPrinted
 listing-printed = runs .0
 
 pub round-printed : RoundPrinted
 round-printed = runs .1
+
+pub overtaken-printed : OvertakenPrinted
+overtaken-printed = runs .2

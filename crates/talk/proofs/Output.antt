@@ -131,17 +131,18 @@ courier-stays true l k = refl
 abbrev tickedBy : Link → List ℕ → Told → Note → Exchange
 tickedBy u room t n = passing true (u .settings .terms) (tells t n u room .midway) .exchange
 
-carried-less : (u : Link) (room : List ℕ) (l : Line) (t : Told) (n : Note) → t ≢ told.Sent → ((m : ℕ) → t ≢ told.Up m)
+carried-less : (u : Link) (room : List ℕ) (l : Line) (t : Told) (n : Note) → t ≢ told.PutOut → t ≢ told.Sent → ((m : ℕ) → t ≢ told.Up m)
     → most (u .settings .limits .rty) (courierBy (sendingBy (u .exchange .sending)) (sendingBy (tickedBy u room t n .sending)) t l (u .block) .line)
     ≤ most (u .settings .limits .rty) l
-carried-less u room l told.Nothing n sent up =
+carried-less u room l told.Nothing n put sent up =
     let same = sending-ends (u .settings .terms) (u .exchange) .ticked in
     rw (same, courier-stays (sendingBy (u .exchange .sending)) l (u .block)) (omega arith)
-carried-less u room l told.Sent n sent up = absurd (sent refl)
-carried-less u room l told.Failed n sent up =
+carried-less u room l told.PutOut n put sent up = absurd (put refl)
+carried-less u room l told.Sent n put sent up = absurd (sent refl)
+carried-less u room l told.Failed n put sent up =
     let ended = sending-ends (u .settings .terms) (failedOf (u .exchange) .exchange) .ticked ∙ sending-ends (u .settings .terms) (u .exchange) .failed in
     rw ended (courier-less (u .settings .limits .rty) (sendingBy (u .exchange .sending)) l (u .block))
-carried-less u room l (told.Up m) n sent up = absurd (up m refl)
+carried-less u room l (told.Up m) n put sent up = absurd (up m refl)
 
 -- what a call puts out, and what ticks can put out behind it
 abbrev TickLess : Link → Left → Type 0
@@ -156,7 +157,7 @@ call-less u room o =
     let v = hearsStep u (tickStep u) in
     let l = carriedBy v (s .told) (tickedBy v room (s .told) (noteBy (s .remark))) room .line in
     let first = tick-less c (u .line .held) (u .line .phase) in
-    let second = carried-less v room (s .line) (s .told) (noteBy (s .remark)) (ticks-tell c (u .line) .not-sent) (ticks-tell c (u .line) .not-up) in
+    let second = carried-less v room (s .line) (s .told) (noteBy (s .remark)) (ticks-tell c (u .line) .not-out) (ticks-tell c (u .line) .not-sent) (ticks-tell c (u .line) .not-up) in
     let third = settle-less (c .rty) (l .held) (l .phase) in
     omega (arith, length-append (bytesOut [] (s .out)) (bytesOut [] (settleOf l .out)), first, second, third))
 

@@ -2,6 +2,7 @@ pub mod Run
 pub mod Answer
 pub mod Listing
 pub mod Round
+pub mod Overtaken
 pub mod Lines
 pub mod Each
 pub mod Reached

@@ -19,18 +19,22 @@ use Rattle.line.specs.declared.step.Step.{Step}
 use Rattle.exchange.specs.Flags.{noFlags}
 use Rattle.exchange.specs.Judge as exchange
 use Rattle.exchange.specs.Request.{Requesting, requesting, sendingBy}
+use Rattle.exchange.specs.Send.{outgoingOf}
 use Rattle.exchange.specs.Tick.{isStill}
 use Rattle.exchange.specs.declared.Flags.{Flags}
 use Rattle.exchange.specs.declared.Judged.{Judged}
+use Rattle.exchange.specs.declared.Outgoing.{Outgoing}
 use Rattle.exchange.specs.declared.Requested.{Requested}
 use Rattle.exchange.proofs.Stilling.{still-tick}
+use Rattle.link.specs.Answer.{noteBy}
 use Rattle.link.specs.Courier.{carried, courierBy}
-use Rattle.link.specs.State.{withLine, withHeard, partsOf, answerAs, refusedAs, linkInRange, gateOf}
-use Rattle.link.specs.Run.{Left, left, leaves, Telling, telling, untold, judgedAs, passing, codes, settled, course, blockOut, unlessBlock, hearing, onward, stepped, byteStepped, byteStep}
+use Rattle.link.specs.State.{withLine, withExchange, partsOf, answerAs, refusedAs, linkInRange, gateOf}
+use Rattle.link.specs.Run.{Left, left, leaves, Telling, telling, untold, tells, judgedAs, passing, codes, settled, course, blockIn, blockOut, unlessBlock, hearing, onward, stepped, byteOnward, byteStepped, byteStep}
 use Rattle.link.specs.Call.{gated, requestedBy, requestedAs}
 use Rattle.link.specs.declared.Carried.{Carried}
 use Rattle.link.specs.declared.Midway.{Midway}
 use Rattle.link.specs.declared.Outcome.the-variants as outcome
+use Rattle.link.specs.declared.Note.{Note}
 use Rattle.link.specs.declared.Note.the-variants as note
 use Rattle.link.specs.declared.Refusal.{Refusal}
 use Rattle.link.specs.declared.Answer.{Answer}
@@ -103,11 +107,24 @@ tells-so room e = ap (λ (m : Midway). telling m room) e
 pub judges : {j : Judged} {after : List ℕ} {k : exchange.Judging} → exchange.judging j after ≡ k → telling (judgedAs j) after ≡ telling (judgedAs (k .answer)) (k .room)
 judges e = ap (λ (x : exchange.Judging). telling (judgedAs (x .answer)) (x .room)) e
 
+-- what is remarked goes by its note
+pub notes-so : (t : Told) (r : Remark) (u : Link) (room : List ℕ) {n : Note} {x : Telling} → n ≡ noteBy r → x ≡ tells t n u room → x ≡ hearing t r u room
+notes-so t r u room e p = p ∙ ap (λ (n : Note). tells t n u room) e
+
 -- and the call goes on
 pub goes-onward : (u : Link) (p : Out) (ticks : Bool) (t : Told) (o : List ℕ) {m h : Midway} {room : List ℕ} {r : Telling} {x : Left}
     → m ≡ passing ticks (u .settings .terms) h → telling h room ≡ r → x ≡ course u p t m outcome.Done room o → x ≡ onward p ticks t u r o
 goes-onward u p ticks t o {m} {h} {room} e f q =
     q ∙ ap (λ (n : Midway). course u p t n outcome.Done room o) e ∙ ap (λ (z : Telling). onward p ticks t u z o) f
+
+-- or the whole block has gone out before they are told
+pub block-left : (u : Link) (room o : List ℕ) {z : Outgoing} {n : ℕ} {put after : List ℕ} {m : Midway} {r : Telling} {a : Answer}
+    → z ≡ outgoingOf (u .exchange) → (n ≡ length (blockIn z (u .block) room)) × (put ≡ onFront (blockIn z (u .block) room) o)
+    → telling m after ≡ r → a ≡ answerAs (withExchange u (m .exchange)) n outcome.Done (m .note) (m .flags) → left a after put ≡ blockOut u r room o
+block-left u room o {after = after} {m = m} e q f p =
+    all (p ∙ ap (λ (k : ℕ). answerAs (withExchange u (m .exchange)) k outcome.Done (m .note) (m .flags)) (q .0)) refl (q .1)
+    ∙ ap (λ (y : Outgoing). leaves (blockIn y (u .block) room) (withExchange u (m .exchange)) outcome.Done m after o) e
+    ∙ ap (λ (y : Telling). blockOut u y room o) f
 
 -- ---- the short ways
 
@@ -132,13 +149,14 @@ quiet-onward p ticks told.Nothing remark.GaveWay u room o q still = absurd (fals
 quiet-onward p ticks told.Nothing remark.NoLength u room o q still = absurd (false≢true q)
 quiet-onward p ticks told.Nothing remark.Gap u room o q still = absurd (false≢true q)
 quiet-onward p ticks told.Nothing (remark.Bad fault) u room o q still = absurd (false≢true q)
+quiet-onward p ticks told.PutOut r u room o q still = absurd (false≢true q)
 quiet-onward p ticks told.Sent r u room o q still = absurd (false≢true q)
 quiet-onward p ticks told.Failed r u room o q still = absurd (false≢true q)
 quiet-onward p ticks (told.Up n) r u room o q still = absurd (false≢true q)
 
 -- no block goes out then
 quiet-byte : (p : Out) (t : Told) (r : Remark) (u : Link) (room o : List ℕ) → isQuiet p t r ≡ true
-    → unlessBlock p (blockOut u room o) (onward p false t u (hearing t r u room) o) ≡ settling p u room o
+    → byteOnward p t u (hearing t r u room) room o ≡ settling p u room o
 quiet-byte out.Nothing t r u room o q = quiet-onward out.Nothing false t r u room o q refl
 quiet-byte (out.Code c) t r u room o q = quiet-onward (out.Code c) false t r u room o q refl
 quiet-byte out.Block t r u room o q = absurd (false≢true q)
@@ -155,7 +173,7 @@ module _ (v : Link) (room o : List ℕ) (put : Out) {a : Answer} {f : Flags} {no
   shortly = closes room (settles .0 ∙ ap (λ (g : Flags). settledAs v put outcome.Done note.Nothing g) none) (settles .1)
 
   pub short-byte : (t : Told) (r : Remark) → isQuiet put t r ≡ true
-      → left a room now ≡ unlessBlock put (blockOut v room o) (onward put false t v (hearing t r v room) o)
+      → left a room now ≡ byteOnward put t v (hearing t r v room) room o
   short-byte t r q = shortly ∙ sym (quiet-byte put t r v room o q)
 
   pub short-tick : (t : Told) (r : Remark) → isQuiet put t r ≡ true

@@ -16,6 +16,7 @@ remarksNothing (remark.Bad fault) = false
 
 abbrev pub saysNothing : Told → Remark → Bool
 saysNothing told.Nothing r = remarksNothing r
+saysNothing told.PutOut r = false
 saysNothing told.Sent r = false
 saysNothing told.Failed r = false
 saysNothing (told.Up n) r = false

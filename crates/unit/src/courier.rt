@@ -27,6 +27,7 @@ fn goes_on(told: Told, line: Line, block: u16) -> Carried
 {
     match told {
         Told::Nothing => Carried { line, block },
+        Told::PutOut => Carried { line, block },
         Told::Sent => Carried {
             line: line.ask(),
             block: block + 1,

@@ -1,10 +1,9 @@
 // A call on the line, behind the device's step.
 ghost use mathlib.Core.Path.{_≡_};
 ghost use Prim.Native.Nat.{_≤_};
-ghost use mathlib.Core.Bool.{false};
 ghost use lib.ListN.{length};
 ghost use Rattle.cut.specs.Blocks.{mostBlocks};
-ghost use Rattle.link.specs.Run.{blockOut, hearing, left, unlessBlock};
+ghost use Rattle.link.specs.Run.{blockOut, byteOnward, hearing, left};
 ghost use Rattle.unit.specs.Short.{isQuiet, remarksNothing, saysNothing};
 use crate::answer::note_of;
 use crate::courier::course;
@@ -17,7 +16,6 @@ use line::Remark;
 use line::Told;
 use link::Answer;
 use link::Link;
-use link::Note;
 use link::Outcome;
 
 // Whether the line tells and remarks nothing and puts no block out: then a byte has nothing to do but to settle the line.
@@ -36,6 +34,7 @@ fn says_nothing(told: Told, remark: Remark) -> bool
 {
     match told {
         Told::Nothing => remarks_nothing(remark),
+        Told::PutOut => false,
         Told::Sent => false,
         Told::Failed => false,
         Told::Up(_) => false,
@@ -54,14 +53,20 @@ fn remarks_nothing(remark: Remark) -> bool
     }
 }
 
-// "EOT puts out the whole block": nothing else leaves, is judged or settles in that call.
-fn block_out(link: Link, room: &[u8], out: &mut [u8]) -> Answer
+// "EOT puts out the whole block": nothing else leaves, is judged or settles in that call. The transactions are told behind it, for the
+// message that leaves is the one that they had.
+fn block_out(mut link: Link, told: Told, remark: Remark, room: &mut [u8], out: &mut [u8]) -> Answer
     requires { ⌜ 257 ≤ length (now out) ⌝ }
-    ensures { λ r. ⌜ left r (now (room .entry)) (now (out .exit)) ≡ blockOut link (now (room .entry)) (now (out .entry)) ⌝ }
+    ensures { λ r. ⌜ left r (now (room .exit)) (now (out .exit)) ≡ blockOut link (hearing told remark link (now (room .entry))) (now (room .entry)) (now (out .entry)) ⌝ }
 {
     let exchange = link.exchange;
     let count = put_message(out, clerk::outgoing(exchange), link.block, room);
-    answers(link, count, Outcome::Done, Note::Nothing, desk::no_flags())
+    let heard = tells(link, told, note_of(remark), room);
+    let after = heard.exchange;
+    let note = heard.note;
+    let flags = heard.flags;
+    link.exchange = after;
+    answers(link, count, Outcome::Done, note, flags)
 }
 
 // The transactions are told, and the call goes on. `ticks`: whether 0.1 s pass in it.
@@ -92,11 +97,11 @@ pub(crate) fn unless_block(
     out: &mut [u8],
 ) -> Answer
     requires { ⌜ (257 ≤ length (now out)) × (link .block ≤ mostBlocks) ⌝ }
-    ensures { λ r. ⌜ left r (now (room .exit)) (now (out .exit)) ≡ unlessBlock put (blockOut link (now (room .entry)) (now (out .entry))) (Rattle.link.specs.Run.onward put false told link (hearing told remark link (now (room .entry))) (now (out .entry))) ⌝ }
+    ensures { λ r. ⌜ left r (now (room .exit)) (now (out .exit)) ≡ byteOnward put told link (hearing told remark link (now (room .entry))) (now (room .entry)) (now (out .entry)) ⌝ }
 {
     match put {
         Out::Nothing => onward(link, put, false, told, remark, room, out),
         Out::Code(_) => onward(link, put, false, told, remark, room, out),
-        Out::Block => block_out(link, room, out),
+        Out::Block => block_out(link, told, remark, room, out),
     }
 }

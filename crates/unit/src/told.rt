@@ -4,7 +4,7 @@ ghost use Prim.Native.Nat.{_≤_};
 ghost use lib.ListN.{length};
 ghost use Rattle.wire.specs.Bytes.{part};
 ghost use Rattle.header.specs.Header.{firstTen};
-ghost use Rattle.link.specs.Run.{changedTo, judgedAs, judging, nextIn, telling};
+ghost use Rattle.link.specs.Run.{changedTo, judgedAs, judging, nextIn, puttingOut, telling};
 use crate::flags::both_flags;
 use exchange::Changed;
 use exchange::Exchange;
@@ -51,6 +51,16 @@ fn has_next(message: Outgoing, k: u16) -> bool
             (k as usize) < count
         }
     }
+}
+
+// A block goes out: they are told so of the message's last one.
+fn putting_out(more: bool, exchange: Exchange) -> Exchange
+    ensures { λ r. ⌜ r ≡ puttingOut more exchange ⌝ }
+{
+    if more {
+        return exchange;
+    }
+    clerk::put_out(exchange)
 }
 
 // A block was acknowledged: they are told so of the message's last one.
@@ -124,6 +134,10 @@ pub(crate) fn tells(link: Link, told: Told, note: Note, room: &mut [u8]) -> Midw
     let exchange = link.exchange;
     match told {
         Told::Nothing => untold(exchange, note),
+        Told::PutOut => untold(
+            putting_out(has_next(clerk::outgoing(exchange), link.block), exchange),
+            note,
+        ),
         Told::Sent => acknowledged(
             has_next(clerk::outgoing(exchange), link.block),
             exchange,

@@ -19,7 +19,7 @@ Apart s = (s .told ≡ told.Nothing) ⊎ (s .remark ≡ remark.Nothing)
 
 byte-apart : (c : Limits) (h : Bool) (p : Phase) (b : ℕ) → ByByte Apart c h p b
 byte-apart c h Idle b = (inl refl, inl refl)
-byte-apart c h (WaitEot timer tries) b = (inl refl, inl refl, λ n. inl refl)
+byte-apart c h (WaitEot timer tries) b = (inr refl, inl refl, λ n. inl refl)
 byte-apart c h (Draining tries) b = inl refl
 byte-apart c h (WaitAck timer tries) b = (inr refl, inr refl, inl refl)
 byte-apart c h (WaitLength timer) b = (inl refl, inl refl)

@@ -1,17 +1,15 @@
 -- Note and flags of a call are those of what the transactions make of the device's step, and of the tick behind it; and a refused call
 -- has none. Assumes nothing.
 use Prim.Native.Nat.{ℕ}
-use mathlib.Core.Path.{_≡_, refl, sym, ap, _∙_}
+use mathlib.Core.Path.{_≡_, refl, ap, _∙_}
 use mathlib.Core.Bool.{Bool, true, false, cond}
 use mathlib.Core.List.{List, [], _∷_}
 use Rattle.line.specs.Line.{Heard}
-use Rattle.line.specs.History as line
-use Rattle.line.proofs.Alone.{block-alone}
 use Rattle.line.specs.declared.step.Told.{Told}
 use Rattle.line.specs.declared.step.Told.the-variants as told
 use Rattle.line.specs.declared.step.Remark.{Remark}
 use Rattle.exchange.specs.Flags.{noFlags}
-use Rattle.exchange.specs.Send.{sentOf, failedOf}
+use Rattle.exchange.specs.Send.{putOutOf, sentOf, failedOf}
 use Rattle.exchange.specs.Judge.{judgeOf}
 use Rattle.exchange.specs.History as exchange
 use Rattle.link.specs.Answer.{accepted, noteBy}
@@ -24,7 +22,7 @@ use Rattle.link.specs.declared.Midway.{Midway}
 use Rattle.link.specs.declared.Note.{Note}
 use Rattle.link.specs.declared.Note.the-variants as note
 use Rattle.link.specs.declared.Link.{Link}
-use Rattle.link.proofs.Cases.{by-gate, by-byte, by-sent, by-request}
+use Rattle.link.proofs.Cases.{by-gate, by-byte, by-put-out, by-sent, by-request}
 use Rattle.link.proofs.Steps.{at-byte, at-tick, at-drained}
 
 -- ---- the device's step
@@ -33,11 +31,14 @@ use Rattle.link.proofs.Steps.{at-byte, at-tick, at-drained}
 pub data Said (u : Link) (room : List ℕ) (n : Note) : List exchange.Call → Midway → Type 0 where
   silent : Said u room n [] (untold (u .exchange) n)
   judged : (h d : List ℕ) → Said u room n (exchange.block h d ∷ []) (judgedAs (judgeOf (u .settings .terms) (u .exchange) h d room .answer))
+  put-out : Said u room n (exchange.put-out ∷ []) (untold (putOutOf (u .exchange)) n)
   sent : Said u room n (exchange.acknowledged ∷ []) (changedTo (sentOf (u .exchange)) n)
   failed : Said u room n (exchange.failed ∷ []) (changedTo (failedOf (u .exchange)) n)
 
 heard-said : (u : Link) (h : Heard) (room : List ℕ) (e : Told) (r : Remark) → Said u room (noteBy r) (toldOn e (hasNext u) (h .received)) (hearing e r (hears u h) room .midway)
 heard-said u h room told.Nothing r = silent
+heard-said u h room told.PutOut r =
+    by-put-out (λ z x. Said u room (noteBy r) (toldOn told.PutOut z (h .received)) (untold x (noteBy r))) (hasNext u) (u .exchange) (λ e. silent) (λ e. put-out)
 heard-said u h room told.Sent r =
     by-sent (λ z m. Said u room (noteBy r) (toldOn told.Sent z (h .received)) m) (hasNext u) (u .exchange) (noteBy r) (λ e. silent) (λ e. sent)
 heard-said u h room told.Failed r = failed
@@ -70,17 +71,12 @@ module _ (u : Link) (room o : List ℕ) where
   shut-says : (k : Call) (l : Left) → Says (saidIn u room k) l → Says (saidIn u room k) (gated u room o l)
   shut-says k l w = by-gate (Says (saidIn u room k)) u room o l (λ r e. (refl, refl)) (λ e. w)
 
-  -- where the whole block leaves, nothing is told or remarked
   said : (k : Call) → Says (saidIn u room k) (called u room o k)
   said (byte b fits) =
       let h = stepIn u (byte b fits) in
       shut-says (byte b fits) _
       (at-byte (λ s. Says (saidIn u room (byte b fits)) (byteStepped u s room o)) u b fits
-      (by-byte (λ p l. Says (saidIn u room (byte b fits)) l) u h room o (λ e. (refl, refl)) (λ c e. (refl, refl))
-      (λ e.
-      let quiet = block-alone (u .settings .limits) (u .line) (u .received) .block (line.byte b fits) e in
-      let heard : untold (u .exchange) note.Nothing ≡ saidIn u room (byte b fits) = λ i. hearing (sym (quiet .told) i) (sym (quiet .remark) i) (hears u h) room .midway in
-      (ap (λ (m : Midway). m .note) heard, ap (λ (m : Midway). m .flags) heard))))
+      (by-byte (λ p l. Says (saidIn u room (byte b fits)) l) u h room o (λ e. (refl, refl)) (λ c e. (refl, refl)) (λ e. (refl, refl))))
   said tick = shut-says tick _ (at-tick (λ s. Says (saidIn u room tick) (stepped true u s room o)) u (refl, refl))
   said drained = shut-says drained _ (at-drained (λ s. Says (saidIn u room drained) (stepped false u s room o)) u (refl, refl))
   said (request r) =

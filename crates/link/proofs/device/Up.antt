@@ -1,7 +1,7 @@
 -- A block goes up exactly if one has come whole, and its bytes are those that came (`specs/Device.antt`). Assumes nothing.
 use Prim.Native.Nat.{ℕ, _+_, _-_, _≤_}
 use mathlib.Core.Path.{_≡_, refl, sym, ap, subst, _∙_}
-use mathlib.Core.Bool.{Bool, true, false, cond, false≢true}
+use mathlib.Core.Bool.{Bool, true, cond, false≢true}
 use mathlib.Core.List.{List, [], _∷_, _++_}
 use native.Mathlib.Omega.{arith}
 use lib.ListN.{length, take, drop, length-append, length-take}
@@ -25,10 +25,13 @@ use Rattle.line.specs.declared.step.Out.{Out}
 use Rattle.line.specs.declared.step.Out.the-variants as out
 use Rattle.line.specs.declared.step.Step.{Step}
 use Rattle.line.specs.declared.step.Told.the-variants as told
-use Rattle.link.specs.History.{Call, byte, tick, drained, request, stepIn, Track, lineTrack, limitsIn}
+use Rattle.exchange.specs.History as exchange
+use Rattle.link.specs.History.{Call, byte, tick, drained, request, Made, stepIn, Track, lineTrack, limitsIn}
 use Rattle.link.specs.Inside.{Reached}
+use Rattle.link.specs.Verdicts.{Tells}
 use Rattle.link.specs.Device.{comes, UpExactly, WentUpExactly}
 use Rattle.link.proofs.inside.Reached.{line-inside}
+use Rattle.link.proofs.device.Told.{told-exactly}
 
 -- ---- it goes up while one is received
 
@@ -142,3 +145,9 @@ went-up-exactly t w m h d = (
       let parts = fronts (firstTen rs) h (part 10 n rs) d refl (a .0) (sym (body-read n rs (z .3 .not-short) (z .3 .counted)) ∙ body) in
       record { size = n; told = record { accepted = a .1 .accepted; told = up }; header = parts .0; rest = parts .1 },
 )
+
+-- ---- how much goes up
+
+-- "length N (10 to 254)": beside its header a block has 244 bytes at most
+pub few-up : (t : Track) → Reached t → (m : Made) (h d : List ℕ) → Tells t m (exchange.block h d) → length d ≤ 244
+few-up t w m h d a = omega (arith, went-up-exactly t w m h d .0 (told-exactly t m .block h d .0 a) .1 .whole .not-long)

@@ -4,6 +4,7 @@ use Prim.Native.Nat.{ℕ, _<_}
 use mathlib.Core.Path.{_≡_, refl, sym, ap, subst, _∙_}
 use mathlib.Core.Bool.{Bool, true, false, cond}
 use mathlib.Core.List.{List, [], _∷_}
+use Rattle.wire.proofs.Choice.{either}
 use Rattle.line.specs.Line.{Heard, busy}
 use Rattle.line.specs.History as line
 use Rattle.line.specs.Theorems.{Turns, BusySteps}
@@ -13,18 +14,20 @@ use Rattle.exchange.specs.Request.{Request, lends, sendingBy, isSending}
 use Rattle.exchange.specs.declared.Asked.the-variants as asked
 use Rattle.exchange.proofs.BeingSent.{request-sends}
 use Rattle.exchange.specs.declared.Sending.{Sending}
+use Rattle.exchange.specs.declared.Exchange.{Exchange}
 use Rattle.link.specs.Run.{hasNext, passing}
-use Rattle.link.specs.History.{byte, tick, drained, request, stepIn, heardBy, couriers, settling, settles, onLine}
+use Rattle.link.specs.History.{Call, byte, tick, drained, request, stepIn, heardBy, couriers, settling, settles, onLine}
 use Rattle.link.specs.declared.Link.{Link}
 use Rattle.link.proofs.Cases.{answering}
-use Rattle.link.proofs.inside.Courier.{sendingOn, told-sends}
+use Rattle.link.proofs.inside.Courier.{goesOnBy, sendingOn, told-sends}
 
--- by what is told of the message being sent, and whether it has a next block
+-- by what is told of the message being sent, and whether it is sent on
 abbrev pub calledFor : Told → Bool → List line.Call
 calledFor told.Nothing more = []
+calledFor told.PutOut more = []
 calledFor told.Sent more = cond more (line.ask ∷ []) (line.withdraw ∷ [])
 calledFor told.Failed more = line.withdraw ∷ []
-calledFor (told.Up n) more = []
+calledFor (told.Up n) more = cond more [] (line.withdraw ∷ [])
 
 -- ---- a step of the line
 
@@ -33,14 +36,31 @@ unchanged : (sending : Bool) (t : Told) → couriers true true t ≡ [] → cour
 unchanged true t none = none
 unchanged false t none = refl
 
-told-calls :
-    (z : Sending) (t : Told) (more after : Bool) → Turns t (sendingBy z) after
-    → couriers (sendingBy z) (sendingBy (sendingOn t more z)) t ≡ calledFor t more
-told-calls z told.Nothing more after w = unchanged (sendingBy z) told.Nothing refl
-told-calls z told.Sent true after w = rw (w .0) refl
-told-calls z told.Sent false after w = rw (w .0) refl
-told-calls z told.Failed more after w = rw (w .0) refl
-told-calls z (told.Up n) more after w = unchanged (sendingBy z) (told.Up n) refl
+-- it is not sent on only where it was being sent
+was-sent : (before after : Bool) → cond before after true ≡ false → before ≡ true
+was-sent true after e = refl
+was-sent false after e = sym e
+
+module _ (u : Link) (x : Exchange) where
+  abbrev z : Sending
+  z = u .exchange .sending
+
+  -- where it is, or is not
+  abbrev Calls : Told → Bool → Type 0
+  Calls t on = couriers (sendingBy z) (sendingBy (sendingOn on z)) t ≡ calledFor t on
+
+  told-calls : (t : Told) (after : Bool) → Turns t (sendingBy z) after → Calls t (goesOnBy t u x)
+  told-calls told.Nothing after w = unchanged (sendingBy z) told.Nothing refl
+  told-calls told.PutOut after w = unchanged (sendingBy z) told.PutOut refl
+  told-calls told.Sent after w = either (hasNext u) (Calls told.Sent) (λ e. rw (w .0) refl) (λ e. rw (w .0) refl)
+  told-calls told.Failed after w = rw (w .0) refl
+  told-calls (told.Up n) after w =
+      either (goesOnBy (told.Up n) u x) (Calls (told.Up n)) (λ e. unchanged (sendingBy z) (told.Up n) refl)
+      (λ e. ap (λ b. couriers b false (told.Up n)) (was-sent (sendingBy z) (isSending x) e))
+
+-- whether the message being sent is sent on, in a call
+abbrev pub sentOn : Link → List ℕ → Call → Bool
+sentOn u room k = goesOnBy (stepIn u k .step .told) u (heardBy u (stepIn u k) room .midway .exchange)
 
 -- ---- a call
 
@@ -48,19 +68,20 @@ module _ (u : Link) (room : List ℕ) (same : isSending (u .exchange) ≡ busy (
   step-calls :
       (h : Heard) (ticks : Bool) → Turns (h .step .told) (busy (u .line)) (busy (h .step .line))
       → couriers (isSending (u .exchange)) (isSending (passing ticks (u .settings .terms) (heardBy u h room .midway) .exchange)) (h .step .told)
-      ≡ calledFor (h .step .told) (hasNext u)
+      ≡ calledFor (h .step .told) (goesOnBy (h .step .told) u (heardBy u h room .midway .exchange))
   step-calls h ticks w =
       let t = h .step .told in
       ap (λ (y : Sending). couriers (isSending (u .exchange)) (sendingBy y) t) (told-sends u h room ticks t (h .step .remark))
-      ∙ told-calls (u .exchange .sending) t (hasNext u) (busy (h .step .line)) (subst (λ (b : Bool). Turns t b (busy (h .step .line))) (sym same) w)
+      ∙ told-calls u (heardBy u h room .midway .exchange) t (busy (h .step .line)) (subst (λ (b : Bool). Turns t b (busy (h .step .line))) (sym same) w)
 
   pub byte-calls :
       (b : ℕ) (fits : b < 256)
-      → onLine u room (byte b fits) ≡ line.byte b fits ∷ settles (stepIn u (byte b fits) .step .out) (calledFor (stepIn u (byte b fits) .step .told) (hasNext u))
+      → onLine u room (byte b fits)
+      ≡ line.byte b fits ∷ settles (stepIn u (byte b fits) .step .out) (calledFor (stepIn u (byte b fits) .step .told) (sentOn u room (byte b fits)))
   byte-calls b fits =
       ap (λ ks. line.byte b fits ∷ settles (stepIn u (byte b fits) .step .out) ks) (step-calls (stepIn u (byte b fits)) false (turns .byte b (u .received) .turns))
 
-  pub tick-calls : onLine u room tick ≡ line.tick ∷ settling (calledFor (stepIn u tick .step .told) (hasNext u))
+  pub tick-calls : onLine u room tick ≡ line.tick ∷ settling (calledFor (stepIn u tick .step .told) (sentOn u room tick))
   tick-calls = ap (λ ks. line.tick ∷ settling ks) (step-calls (stepIn u tick) true (turns .tick .turns))
 
 -- nothing is told

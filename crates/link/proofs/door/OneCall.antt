@@ -130,6 +130,7 @@ whole P (a ∷ b ∷ c ∷ bs) e long = long a b c bs
 -- what tells nothing does not tell that it was sent
 abbrev isSent : Told → Bool
 isSent told.Nothing = false
+isSent told.PutOut = false
 isSent told.Sent = true
 isSent told.Failed = false
 isSent (told.Up n) = false
@@ -138,13 +139,15 @@ module _ (c : Limits) (block : List ℕ) (s : Seen) where
   abbrev seen : Phase → Seen
   seen p = seenAt s p
 
-  -- "after the ACK or NAK": a receive ends, and a held block is enquired for
+  -- "after the ACK or NAK": a receive ends, and a held block is enquired for, if its message is sent on
   acked :
       (h : Bool) (p : Phase) (more : Bool) (b : ℕ) (fits : b < 256) (n : ℕ) → oursAt p ≡ none → theirsAt p ≡ true
       → AfterByte c p (seen p) block b fits more (rises (lineAt h p) n)
   unfolding settleIdle track lineBytes
-  acked true p more b fits n o t = rw (o, t) (λ rs k. (refl, refl, λ z. refl, never, λ m e. refl))
-  acked false p more b fits n o t = rw (o, t) (λ rs k. (refl, refl, λ z. refl, never, λ m e. tt))
+  acked true p true b fits n o t = rw (o, t) (λ rs k. (refl, refl, λ z. refl, never, λ m e. refl))
+  acked true p false b fits n o t = rw (o, t) (λ rs k. (refl, refl, λ z. refl, never, λ m e. tt))
+  acked false p true b fits n o t = rw (o, t) (λ rs k. (refl, refl, λ z. refl, never, λ m e. tt))
+  acked false p false b fits n o t = rw (o, t) (λ rs k. (refl, refl, λ z. refl, never, λ m e. tt))
 
   naked :
       (h : Bool) (p : Phase) (more : Bool) (why : Remark) → line.givesWay why ≡ false → oursAt p ≡ none → theirsAt p ≡ true

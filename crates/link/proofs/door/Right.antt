@@ -18,7 +18,7 @@ use Rattle.line.proofs.Busy.{busy-turns}
 use Rattle.line.proofs.Sending.{each-enq-its-block, ack-means-sent}
 use Rattle.line.specs.declared.phase.Phase.{Phase}
 use Rattle.line.specs.declared.line.Line.{Line}
-use Rattle.link.specs.Run.{hasNext, blockBytes}
+use Rattle.link.specs.Run.{blockBytes}
 use Rattle.link.specs.Reading.{sendingOf}
 use Rattle.link.specs.History.{Call, byte, tick, drained, request, unlessRefused, onLine, cameTo, Made, Track, lentRoom, lineTrack, limitsIn, answered, next, track}
 use Rattle.link.specs.Inside.{Reached}
@@ -33,7 +33,7 @@ use Rattle.link.proofs.inside.Line.{line-goes}
 use Rattle.link.proofs.inside.Reached.{reached-next, start, reached-start, by-calls, line-inside}
 use Rattle.link.proofs.inside.Agrees.{agrees, whole-block}
 use Rattle.link.proofs.door.Bytes.{called-bytes}
-use Rattle.link.proofs.door.Courier.{byte-calls, tick-calls, drained-calls, lent-calls, free-calls}
+use Rattle.link.proofs.door.Courier.{sentOn, byte-calls, tick-calls, drained-calls, lent-calls, free-calls}
 use Rattle.link.proofs.door.OneCall.{Settled, Untouched, Known, byte-untouched, Through, by-byte, by-tick, by-drained, by-ask, by-none}
 
 -- ---- one call
@@ -110,11 +110,11 @@ module _ (t : Track) (w : Reached t) (calm : Settled (t .link .line)) (room o : 
   call-shown : (k : Call) → Shown (kind k) (onLine u room k) (cameTo u room o k)
   call-shown (byte b fits) =
       shown _ _ _ (byte-calls u room (agrees t w .same) (busy-turns c (lineTrack t) inside) b fits)
-      (by-byte c (u .line) (u .received) block s (good .ours) (good .theirs) calm (hasNext u) b fits (enquired-whole t w room) (known (line.byte b fits)))
+      (by-byte c (u .line) (u .received) block s (good .ours) (good .theirs) calm (sentOn u room (byte b fits)) b fits (enquired-whole t w room) (known (line.byte b fits)))
       (cameTo u room o (byte b fits))
   call-shown tick =
       shown _ _ _ (tick-calls u room (agrees t w .same) (busy-turns c (lineTrack t) inside))
-      (by-tick c (u .line) (u .received) block s (good .ours) (good .theirs) calm (hasNext u) (known line.tick)) (cameTo u room o tick)
+      (by-tick c (u .line) (u .received) block s (good .ours) (good .theirs) calm (sentOn u room tick) (known line.tick)) (cameTo u room o tick)
   call-shown drained =
       shown _ _ _ (drained-calls u room) (by-drained c (u .line) (u .received) block s (good .ours) (good .theirs) calm) (cameTo u room o drained)
   call-shown (request r) =

@@ -39,6 +39,7 @@ receive-timer c (Silence timer fault) w e r n q g = sym (g .3)
 own-timer : (c : Terms) (z : OwnStage) (h : List ℕ) (s : own.Seen) → OwnAt c z h s → OwnTimer z s
 own-timer c stage.Free h s g = tt
 own-timer c stage.Sending h s g = tt
+own-timer c stage.PutOut h s g = tt
 own-timer c (stage.Awaiting timer) h s g = sym (g .since)
 own-timer c (stage.Replying a) h s g = sym (g .arrives .quiet)
 own-timer c (stage.Done v r) h s g = tt

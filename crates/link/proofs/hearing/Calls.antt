@@ -18,7 +18,7 @@ use Rattle.exchange.specs.Request.{Request, lends}
 use Rattle.exchange.specs.declared.Asked.the-variants as asked
 use Rattle.exchange.proofs.BeingSent.{request-sends}
 use Rattle.link.specs.Answer.{accepted}
-use Rattle.link.specs.Run.{hasNext, blockBytes}
+use Rattle.link.specs.Run.{blockBytes}
 use Rattle.link.specs.Reading.{sendingOf}
 use Rattle.link.specs.History.{Call, byte, tick, drained, request, Room, stepIn, settling, settles, onLine, cameTo, lentRoom, Track, lineTrack, limitsIn, termsIn, Made, answered, next, track}
 use Rattle.link.specs.Inside.{Reached}
@@ -32,7 +32,7 @@ use Rattle.link.proofs.inside.Reached.{reached-next, line-inside}
 use Rattle.link.proofs.inside.Courier.{clash, none-under-way}
 use Rattle.link.proofs.inside.Agrees.{agrees}
 use Rattle.link.proofs.door.Bytes.{called-bytes}
-use Rattle.link.proofs.door.Courier.{calledFor, byte-calls, tick-calls, drained-calls, lent-calls, free-calls}
+use Rattle.link.proofs.door.Courier.{calledFor, sentOn, byte-calls, tick-calls, drained-calls, lent-calls, free-calls}
 use Rattle.link.proofs.door.Right.{settled}
 use Rattle.link.proofs.door.Ticks.{ticks-counted}
 use Rattle.link.proofs.door.Limits.{from-line, unrefused}
@@ -81,7 +81,7 @@ module _ (t : Track) (r : Reached t) (lent : Room) (o : List ℕ) where
   seen-at P g = subst (λ x. P x (s .theirs)) (sym (good .ours)) (subst (P (oursAt phase)) (sym (good .theirs)) g)
 
   -- a block goes up exactly if it came whole
-  rises : (b : ℕ) (fits : b < 256) → Taken (byte b fits) → Rises c block s b fits (hasNext u) (u .line .held) (u .received) (s .bytes) phase
+  rises : (b : ℕ) (fits : b < 256) → Taken (byte b fits) → Rises c block s b fits (sentOn u room (byte b fits)) (u .line .held) (u .received) (s .bytes) phase
   rises b fits ok =
       let m = made (byte b fits) lent o in (
         λ th n body k. up-exactly t r m n .1 (body, record { accepted = ok; receiving = good .theirs ∙ th; last = b; came = eq-eqb b b refl; whole = k }) .told,
@@ -106,16 +106,16 @@ module _ (t : Track) (r : Reached t) (lent : Room) (o : List ℕ) where
   got : (since : ℕ) → SendTimer phase since → (k : Call) → Taken k → Got since k (onLine u room k)
   got since i (byte b fits) ok =
       let h = stepIn u (byte b fits) in
-      let ks = line.byte b fits ∷ settles (h .step .out) (calledFor (h .step .told) (hasNext u)) in
+      let ks = line.byte b fits ∷ settles (h .step .out) (calledFor (h .step .told) (sentOn u room (byte b fits))) in
       subst (Got since (byte b fits)) (sym (byte-calls u room (agrees t r .same) (busy-turns c (lineTrack t) (line-inside t r)) b fits))
       (seen-at (λ x y. ByteGets c x y (s .enqs) (s .bytes) b (put ks) (then ks))
-      (byte-gets c block s b fits (hasNext u) (u .line .held) (u .received) (s .enqs) (s .bytes) phase (settled t r) (tries-are-enqs c (lineTrack t) (line-inside t r))
+      (byte-gets c block s b fits (sentOn u room (byte b fits)) (u .line .held) (u .received) (s .enqs) (s .bytes) phase (settled t r) (tries-are-enqs c (lineTrack t) (line-inside t r))
       (rises b fits ok)))
   got since i tick ok =
-      let ks = line.tick ∷ settling (calledFor (stepIn u tick .step .told) (hasNext u)) in
+      let ks = line.tick ∷ settling (calledFor (stepIn u tick .step .told) (sentOn u room tick)) in
       subst (Got since tick) (sym (tick-calls u room (agrees t r .same) (busy-turns c (lineTrack t) (line-inside t r))))
       (seen-at (λ x y. TickGets c x y (s .enqs) since (s .bytes) (s .silent) (put ks) (then ks))
-      (tick-gets c block s (hasNext u) (u .line .held) (u .received) (s .enqs) since (s .bytes) (s .silent) phase (settled t r)
+      (tick-gets c block s (sentOn u room tick) (u .line .held) (u .received) (s .enqs) since (s .bytes) (s .silent) phase (settled t r)
       (tries-are-enqs c (lineTrack t) (line-inside t r)) i
       (heeds c phase (s .waited) (s .enqs) (s .took) (s .silent) (u .received) (s .bytes) (good .counts) (good .bytes))))
   got since i drained ok = subst (Got since drained) (sym (drained-calls u room)) (drained-gets c block s (u .line .held) phase (u .received) (settled t r))

@@ -39,6 +39,7 @@ use Rattle.link.proofs.hearing.Calls.{timed-at}
 
 abbrev isFailed : Told → Bool
 isFailed told.Nothing = false
+isFailed told.PutOut = false
 isFailed told.Sent = false
 isFailed told.Failed = true
 isFailed (told.Up n) = false

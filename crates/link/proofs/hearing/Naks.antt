@@ -23,7 +23,7 @@ use Rattle.line.specs.declared.step.Remark.the-variants as remark
 use Rattle.exchange.specs.Request.{lends}
 use Rattle.exchange.specs.Judge.{judgeOf}
 use Rattle.link.specs.Answer.{noteNumber}
-use Rattle.link.specs.Run.{hasNext, blockBytes}
+use Rattle.link.specs.Run.{blockBytes}
 use Rattle.link.specs.Reading.{sendingOf}
 use Rattle.link.specs.History.{Call, byte, tick, drained, request, Room, stepIn, settling, lentRoom, Track, lineTrack, limitsIn, termsIn, Made, answered, next}
 use Rattle.link.specs.Door.{bytesLeft, closes, lineBytes, Watch, AtDoor, made, followed}
@@ -34,7 +34,7 @@ use Rattle.link.proofs.inside.Reached.{line-inside}
 use Rattle.link.proofs.inside.Courier.{clash}
 use Rattle.link.proofs.inside.Agrees.{agrees}
 use Rattle.link.proofs.inside.Places.{lent}
-use Rattle.link.proofs.door.Courier.{calledFor, tick-calls}
+use Rattle.link.proofs.door.Courier.{calledFor, sentOn, tick-calls}
 use Rattle.link.proofs.door.OneCall.{Calm}
 use Rattle.link.proofs.door.Right.{settled, door-right}
 use Rattle.link.proofs.door.Limits.{receive-ends-by}
@@ -122,12 +122,12 @@ module _ (t : Track) (w : Watch) (a : AtDoor t w) where
       let room = lentRoom lend (t .room) in
       let block = blockBytes (t .link) room in
       let l = t .link .line in
-      let here : Either c block (t .seen) (hasNext (t .link)) (nak tick) (bytesLeft (answered t m)) (sendingOf (next t m .link)) =
-      at-door t r m ok (Either c block (t .seen) (hasNext (t .link)) (nak tick))
+      let here : Either c block (t .seen) (sentOn (t .link) room tick) (nak tick) (bytesLeft (answered t m)) (sendingOf (next t m .link)) =
+      at-door t r m ok (Either c block (t .seen) (sentOn (t .link) room tick) (nak tick))
       (subst
-      (λ ks. Either c block (t .seen) (hasNext (t .link)) (nak tick) (lineBytes c l (t .link .received) block ks) (busy (track c (lineTrack t) ks .line)))
+      (λ ks. Either c block (t .seen) (sentOn (t .link) room tick) (nak tick) (lineBytes c l (t .link .received) block ks) (busy (track c (lineTrack t) ks .line)))
       (sym (tick-calls (t .link) room (agrees t r .same) (busy-turns c (lineTrack t) (line-inside t r))))
-      (shown c block (t .seen) (hasNext (t .link)) (l .held) (l .phase) (t .link .received) (settled t r))) in
+      (shown c block (t .seen) (sentOn (t .link) room tick) (l .held) (l .phase) (t .link .received) (settled t r))) in
       ⊎-elim (λ y. (λ q. y .0, λ q. absurd (q (y .1)))) (λ y. none-leaves m (y .0) (y .1)) here
   exactly drained lend o ok = none-leaves (made drained lend o) refl (ap led (each-call-gets t w a (made drained lend o) ok))
   exactly (request r) lend o ok =

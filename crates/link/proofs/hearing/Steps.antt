@@ -51,6 +51,7 @@ heeds c (Silence timer fault) w e r q rs bs g x = (g .3, after-refused c bs faul
 
 abbrev isUp : Told → Bool
 isUp told.Nothing = false
+isUp told.PutOut = false
 isUp told.Sent = false
 isUp told.Failed = false
 isUp (told.Up n) = true
@@ -65,6 +66,17 @@ module _ (c : Limits) (block : List ℕ) (s : Seen) where
 
   -- ---- a byte
 
+  -- ACK leaves where a block goes up, and behind it a held block's ENQ, if its message is sent on
+  ack-leaves : (b : ℕ) (fits : b < 256) (h : Bool) (p : Phase) (n : ℕ) (rs : List ℕ) (on : Bool)
+      → (let z = rises (lineAt h p) n in
+      let ks = settles (z .out) (calledFor (z .told) on) in
+      bytesBehind z rs ks ≡ followed ACK (busyBehind (line.byte b fits) z rs ks))
+  unfolding settleIdle track lineBytes
+  ack-leaves b fits true p n rs true = refl
+  ack-leaves b fits true p n rs false = refl
+  ack-leaves b fits false p n rs true = refl
+  ack-leaves b fits false p n rs false = refl
+
   module _ (b : ℕ) (fits : b < 256) (more : Bool) where
     abbrev restOf : Step → List line.Call
     restOf z = settles (z .out) (calledFor (z .told) more)
@@ -77,9 +89,7 @@ module _ (c : Limits) (block : List ℕ) (s : Seen) where
         ⊎ ((n : ℕ) × (z .told ≡ told.Up n) × (bytesBehind z rs (restOf z) ≡ followed ACK (busyBehind (line.byte b fits) z rs (restOf z))))
 
     rises-ends : (h : Bool) (p : Phase) (n : ℕ) → Ends (rises (lineAt h p) n)
-    unfolding settleIdle track lineBytes
-    rises-ends true p n rs = inr (n, refl, refl)
-    rises-ends false p n rs = inr (n, refl, refl)
+    rises-ends h p n rs = inr (n, refl, ack-leaves b fits h p n rs more)
 
     ends : (h : Bool) (p : Phase) → theirsAt p ≡ true → ByByte Ends c h p b
     unfolding track lineBytes

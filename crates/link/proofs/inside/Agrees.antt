@@ -14,7 +14,7 @@ use Rattle.cut.proofs.Cutting.{cut-is}
 use Rattle.cut.proofs.Counts.{count-is-fewest, most-blocks}
 use Rattle.cut.specs.declared.Cut.{Cut}
 use Rattle.cut.specs.declared.Cut.the-variants as cut
-use Rattle.line.specs.Line.{Heard, busy, settleOf}
+use Rattle.line.specs.Line.{Heard, underWay, busy, settleOf}
 use Rattle.line.specs.Theorems.{Turns}
 use Rattle.line.specs.declared.line.Line.{Line}
 use Rattle.line.specs.declared.step.Told.{Told}
@@ -45,7 +45,8 @@ use Rattle.link.proofs.Cases.{by-gate, by-byte, by-request, answering}
 use Rattle.link.proofs.Steps.{at-byte}
 use Rattle.link.proofs.inside.Reached.{by-calls, line-inside}
 use Rattle.link.proofs.inside.Places.{exchange-inside}
-use Rattle.link.proofs.inside.Courier.{clash, not-busy, none-under-way, courier-agrees, sendingOn, told-sends}
+use Rattle.link.proofs.inside.Courier.{clash, not-busy, none-under-way, courier-agrees, goesOnBy, sendingOn, heardAs, told-sends, out-sends}
+use Rattle.link.proofs.inside.Rests.{Rests, byte-rests, tick-rests}
 
 -- block k is one of message z; it is 1 where there is none
 record OneOf (z : Sending) (k : ℕ) : Type 0 where
@@ -105,17 +106,17 @@ module _ (u : Link) (g : InLink u) where
     Leaves t y = let r = courierOf z y t l (u .block) room in Agreed (settleOf (r .line) .line) y (r .block)
 
     -- the courier keeps it so, where it comes to a block of y
-    carried : (t : Told) (y : Sending) → Turns t (sendingBy z) (busy l) → (t ≡ told.Failed → sendingBy y ≡ false) → (sendingBy y ≡ false → busy l ≡ false)
-        → ((n : ℕ) → BlockCarried z y t (u .block) n → OneOf y n) → Leaves t y
+    carried : (t : Told) (y : Sending) → Turns t (sendingBy z) (busy l) → (t ≡ told.Failed → sendingBy y ≡ false)
+        → (sendingBy y ≡ false → underWay (l .phase) ≡ false) → ((n : ℕ) → BlockCarried z y t (u .block) n → OneOf y n) → Leaves t y
     carried t y turned failed free one =
         let r = courierOf z y t l (u .block) room in
-        let c = courier-agrees z y t l (u .block) room (record { turned = turned; failed = failed; gone = λ n. none-under-way l (free n) }) in
+        let c = courier-agrees z y t l (u .block) room (record { turned = turned; failed = failed; gone = free }) in
         record { same = c .line .same ∙ busy-still (r .line) .settle; block = one (r .block) (c .block) }
 
     -- what is told has no part in the message
     stands : (t : Told) → line.isOver t ≡ false → Turns t (sendingBy z) (busy l) → Leaves t z
     stands t e turned =
-        carried t z turned (λ f. clash (sym e ∙ ap line.isOver f)) (λ n. not-busy t (subst (λ b. Turns t b (busy l)) n turned))
+        carried t z turned (λ f. clash (sym e ∙ ap line.isOver f)) (λ n. none-under-way l (not-busy t (subst (λ b. Turns t b (busy l)) n turned)))
         (λ n c. subst (OneOf z) (sym (c .stays refl (λ f. clash (sym e ∙ ap line.isOver f)))) (g .block))
 
     -- it begins
@@ -126,49 +127,54 @@ module _ (u : Link) (g : InLink u) where
     -- it has a block behind the one that was acknowledged
     goes-on : u .block < blockCount (lengthSent z) → Turns told.Sent (sendingBy z) (busy l) → Leaves told.Sent z
     goes-on more turned =
-        carried told.Sent z turned (λ f. clash cc) (λ n. turned .1)
+        carried told.Sent z turned (λ f. clash cc) (λ n. none-under-way l (turned .1))
         (λ n c. record { first = omega (arith, c .next refl refl); within = λ s. omega (arith, more, c .next refl refl); idle = λ s. clash (sym s ∙ turned .0) })
 
-    -- it is over
-    over : (t : Told) (y : Sending) → sendingBy y ≡ false → Turns t (sendingBy z) (busy l) → busy l ≡ false → Leaves t y
-    over t y none turned free =
-        carried t y turned (λ f. none) (λ n. free) (λ n c. subst (OneOf y) (sym (c .none (g .block .idle) none)) (at-first y))
+    -- it is over: acknowledged, failed or withdrawn
+    over : (t : Told) → Turns t (sendingBy z) (busy l) → underWay (l .phase) ≡ false → Leaves t sending.Nothing
+    over t turned free =
+        carried t sending.Nothing turned (λ f. refl) (λ n. free) (λ n c. subst (OneOf sending.Nothing) (sym (c .none (g .block .idle) refl)) (at-first sending.Nothing))
 
-    -- what today's transactions make of it
-    told-leaves : (t : Told) → Turns t (sendingBy z) (busy l) → Leaves t (sendingOn t (hasNext u) z)
-    told-leaves told.Nothing w = stands told.Nothing refl w
-    told-leaves told.Sent w =
-        either (hasNext u) (λ more. Leaves told.Sent (sendingOn told.Sent more z)) (λ e. goes-on (more-blocks z (u .exchange) (u .block) e) w)
-        (λ e. over told.Sent sending.Nothing refl w (w .1))
-    told-leaves told.Failed w = over told.Failed sending.Nothing refl w (w .1)
-    told-leaves (told.Up n) w = stands (told.Up n) refl w
+    -- what today's transactions make of it, where they have come to x
+    told-leaves : (t : Told) (x : Exchange) → Turns t (sendingBy z) (busy l) → Rests t (l .phase) → Leaves t (sendingOn (goesOnBy t u x) z)
+    told-leaves told.Nothing x w up = stands told.Nothing refl w
+    told-leaves told.PutOut x w up = stands told.PutOut refl w
+    told-leaves told.Sent x w up =
+        either (hasNext u) (λ more. Leaves told.Sent (sendingOn more z)) (λ e. goes-on (more-blocks z (u .exchange) (u .block) e) w)
+        (λ e. over told.Sent w (none-under-way l (w .1)))
+    told-leaves told.Failed x w up = over told.Failed w (none-under-way l (w .1))
+    told-leaves (told.Up n) x w up =
+        either (goesOnBy (told.Up n) u x) (λ on. Leaves (told.Up n) (sendingOn on z)) (λ e. stands (told.Up n) refl w) (λ e. over (told.Up n) w up)
 
-  stepped-agreed : (ticks : Bool) (h : Heard) (room o : List ℕ) → Turns (h .step .told) (busy (u .line)) (busy (h .step .line)) → InLink (stepped ticks u h room o .answer .link)
-  stepped-agreed ticks h room o turns =
+  stepped-agreed : (ticks : Bool) (h : Heard) (room o : List ℕ) → Turns (h .step .told) (busy (u .line)) (busy (h .step .line))
+      → Rests (h .step .told) (h .step .line .phase) → InLink (stepped ticks u h room o .answer .link)
+  stepped-agreed ticks h room o turns up =
       let l = h .step .line in
       let t = h .step .told in
-      subst (Leaves l room t) (sym (told-sends u h room ticks t (h .step .remark))) (told-leaves l room t (subst (λ b. Turns t b (busy l)) (sym (g .same)) turns))
+      subst (Leaves l room t) (sym (told-sends u h room ticks t (h .step .remark)))
+      (told-leaves l room t (heardAs u h room t (h .step .remark)) (subst (λ b. Turns t b (busy l)) (sym (g .same)) turns) up)
 
   -- where the whole block leaves it is on its way, and stays so
   byte-agreed : (b : ℕ) (fits : b < 256) (room o : List ℕ) → Free (u .line .phase) (u .line .held) → InLink (byteStepped u (byteStep u b) room o .answer .link)
   byte-agreed b fits room o free =
       let h = stepIn u (byte b fits) in
       let busier = busy-steps (u .settings .limits) (u .line) free .byte b (u .received) in
-      let on = stepped-agreed false h room o (busier .turns) in
+      let on = stepped-agreed false h room o (busier .turns) (byte-rests (u .settings .limits) (u .line) b (u .received)) in
       at-byte (λ (s : Heard). InLink (byteStepped u s room o .answer .link)) u b fits
       (by-byte (λ p (l : Left). InLink (l .answer .link)) u h room o (λ e. on) (λ c e. on)
       (λ e.
       let quiet = block-alone (u .settings .limits) (u .line) (u .received) .block (line.byte b fits) e .told in
       let as-busy = subst (λ (t : Told). Turns t (busy (u .line)) (busy (h .step .line))) quiet (busier .turns) in
-      record { same = g .same ∙ as-busy; block = g .block }))
+      subst (λ y. Agreed (h .step .line) y (u .block)) (sym (out-sends u h room (h .step .told) (h .step .remark) quiet))
+      (record { same = g .same ∙ as-busy .0 ∙ sym (as-busy .1); block = g .block })))
 
   gated-agreed : (room o : List ℕ) (l : Left) → InLink (l .answer .link) → InLink (gated u room o l .answer .link)
   gated-agreed room o l w = by-gate (λ x. InLink (x .answer .link)) u room o l (λ r e. g) (λ e. w)
 
   called-agreed : Free (u .line .phase) (u .line .held) → (room o : List ℕ) (k : Call) → InLink (called u room o k .answer .link)
   called-agreed free room o (byte b fits) = gated-agreed room o _ (byte-agreed b fits room o free)
-  called-agreed free room o tick = gated-agreed room o _ (stepped-agreed true (tickStep u) room o (busy-steps (u .settings .limits) (u .line) free .tick .turns))
-  called-agreed free room o drained = gated-agreed room o _ (stepped-agreed false (drainedStep u) room o (busy-still (u .line) .drained))
+  called-agreed free room o tick = gated-agreed room o _ (stepped-agreed true (tickStep u) room o (busy-steps (u .settings .limits) (u .line) free .tick .turns) (tick-rests (u .settings .limits) (u .line)))
+  called-agreed free room o drained = gated-agreed room o _ (stepped-agreed false (drainedStep u) room o (busy-still (u .line) .drained) tt)
   called-agreed free room o (request r) =
       let s = request-sends (u .settings .terms) (u .exchange) r room in
       by-request u r room o (λ l. InLink (l .answer .link)) (λ n e. g)

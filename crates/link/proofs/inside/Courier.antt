@@ -4,10 +4,11 @@ use Prim.Native.Nat.{ℕ}
 use mathlib.Core.Path.{_≡_, refl, sym, ap, subst, _∙_}
 use mathlib.Core.Bool.{Bool, true, false, cond, false≢true, _||_}
 use mathlib.Core.List.{List, [], _∷_}
-use mathlib.Core.Logic.{_≢_}
+use mathlib.Core.Logic.{_⊎_, _≢_, ⊎-elim}
 use Rattle.wire.proofs.Choice.{either}
 use Rattle.wire.specs.Bytes.{part}
 use Rattle.header.specs.Header.{firstTen}
+use Rattle.settings.specs.declared.terms.Terms.{Terms}
 use Rattle.line.specs.Line.{Heard, lineAt, holding, underWay, busy, askOf, withdrawOf}
 use Rattle.line.specs.History as line
 use Rattle.line.specs.Theorems.{Turns}
@@ -18,10 +19,14 @@ use Rattle.line.specs.declared.step.Told.{Told}
 use Rattle.line.specs.declared.step.Told.the-variants as told
 use Rattle.line.specs.declared.step.Remark.{Remark}
 use Rattle.line.proofs.Busy.{busy-still}
-use Rattle.exchange.specs.Request.{sendingBy}
+use Rattle.exchange.specs.Exchange.{sentFrom}
+use Rattle.exchange.specs.Request.{sendingBy, isSending}
+use Rattle.exchange.specs.Judge.{judgeOf}
+use Rattle.exchange.specs.BeingSent.{Withdrawn}
 use Rattle.exchange.proofs.BeingSent.{sending-ends}
 use Rattle.exchange.specs.declared.Sending.{Sending}
 use Rattle.exchange.specs.declared.Sending.the-variants as sending
+use Rattle.exchange.specs.declared.Exchange.{Exchange}
 use Rattle.link.specs.Answer.{noteBy}
 use Rattle.link.specs.Courier.{courierBy}
 use Rattle.link.specs.Run.{hasNext, passing, hears, hearing}
@@ -29,7 +34,7 @@ use Rattle.link.specs.History.{couriers}
 use Rattle.link.specs.Inside.{LineCarried, BlockCarried, CourierAgrees}
 use Rattle.link.specs.declared.Midway.{Midway}
 use Rattle.link.specs.declared.Link.{Link}
-use Rattle.link.proofs.Cases.{by-sent}
+use Rattle.link.proofs.Cases.{by-put-out, by-sent}
 
 pub clash : {A : Type 0} → false ≡ true → A
 clash e = absurd (false≢true e)
@@ -43,6 +48,7 @@ by-courier P l k none asks gone false false t = none
 by-courier P l k none asks gone false true t = asks
 by-courier P l k none asks gone true false t = gone
 by-courier P l k none asks gone true true told.Nothing = none
+by-courier P l k none asks gone true true told.PutOut = none
 by-courier P l k none asks gone true true told.Sent = asks
 by-courier P l k none asks gone true true told.Failed = none
 by-courier P l k none asks gone true true (told.Up n) = none
@@ -52,6 +58,7 @@ by-courier P l k none asks gone true true (told.Up n) = none
 -- with no message being sent before, the line is not busy, whatever is told
 pub not-busy : (t : Told) {b : Bool} → Turns t false b → b ≡ false
 not-busy told.Nothing w = sym w
+not-busy told.PutOut w = clash (w .0)
 not-busy told.Sent w = w .1
 not-busy told.Failed w = w .1
 not-busy (told.Up n) w = sym w
@@ -93,6 +100,7 @@ module _ (l : Line) (k : ℕ) where
   line-carried false true t turned failed gone = asked (not-busy t turned)
   line-carried true false t turned failed gone = withdrawn (gone refl)
   line-carried true true told.Nothing turned failed gone = left-alone true (sym turned)
+  line-carried true true told.PutOut turned failed gone = left-alone true (turned .1)
   line-carried true true told.Sent turned failed gone = asked (turned .1)
   line-carried true true told.Failed turned failed gone = clash (sym (failed refl))
   line-carried true true (told.Up n) turned failed gone = left-alone true (sym turned)
@@ -106,6 +114,7 @@ module _ (l : Line) (k : ℕ) where
   stays-at : (sending : Bool) (t : Told) → t ≢ told.Sent → courierBy sending sending t l k .block ≡ k
   stays-at false t other = refl
   stays-at true told.Nothing other = refl
+  stays-at true told.PutOut other = refl
   stays-at true told.Sent other = absurd (other refl)
   stays-at true told.Failed other = refl
   stays-at true (told.Up n) other = refl
@@ -128,24 +137,63 @@ courier-agrees before after t l k room w = record {
 
 -- ---- what today's transactions make of what is told
 
--- what is being sent then, where z was; `more` is whether it has a block behind the one that was acknowledged
-abbrev pub sendingOn : Told → Bool → Sending → Sending
-sendingOn told.Nothing more z = z
-sendingOn told.Sent more z = cond more z sending.Nothing
-sendingOn told.Failed more z = sending.Nothing
-sendingOn (told.Up n) more z = z
+-- Whether the message being sent, if there is one, is sent on, where they have come to x: it has a block behind the one that was
+-- acknowledged; a block that went up has not proved it received.
+abbrev pub goesOnBy : Told → Link → Exchange → Bool
+goesOnBy told.Nothing u x = true
+goesOnBy told.PutOut u x = true
+goesOnBy told.Sent u x = hasNext u
+goesOnBy told.Failed u x = false
+goesOnBy (told.Up n) u x = cond (isSending (u .exchange)) (isSending x) true
+
+-- what is being sent then, where z was
+abbrev pub sendingOn : Bool → Sending → Sending
+sendingOn on z = cond on z sending.Nothing
+
+pub sent-sends : (z : Sending) (p : ℕ) → sentFrom z p ≡ true → sendingBy z ≡ true
+sent-sends sending.Nothing p e = clash e
+sent-sends (sending.Primary q n) p e = refl
+sent-sends (sending.Reply q f n) p e = clash e
+
+both-on : (b : Bool) → cond b b true ≡ true
+both-on true = refl
+both-on false = refl
+
+judged-sends : (z y : Sending) → (y ≡ z) ⊎ Withdrawn z y → y ≡ sendingOn (cond (sendingBy z) (sendingBy y) true) z
+judged-sends z y =
+    ⊎-elim (λ e. e ∙ sym (ap (λ on. sendingOn on z) (ap (λ v. cond (sendingBy z) (sendingBy v) true) e ∙ both-on (sendingBy z))))
+    (λ w. w .now ∙ (λ i. sendingOn (cond (sym (sent-sends z (w .place) (w .was)) i) (sendingBy (sym (w .now) i)) true) z))
+
+-- where no message is being sent, none is by judging
+pub judged-still : (c : Terms) (x : Exchange) (h d room : List ℕ) → isSending x ≡ false → judgeOf c x h d room .answer .exchange .sending ≡ x .sending
+judged-still c x h d room idle =
+    ⊎-elim (λ e. e) (λ w. clash (sym idle ∙ sent-sends (x .sending) (w .place) (w .was))) (sending-ends c x .judged h d room)
 
 module _ (u : Link) (h : Heard) (room : List ℕ) where
-  heard-sends : (t : Told) (r : Remark) → hearing t r (hears u h) room .midway .exchange .sending ≡ sendingOn t (hasNext u) (u .exchange .sending)
+  -- what they have come to
+  abbrev pub heardAs : Told → Remark → Exchange
+  heardAs t r = hearing t r (hears u h) room .midway .exchange
+
+  heard-sends : (t : Told) (r : Remark) → heardAs t r .sending ≡ sendingOn (goesOnBy t u (heardAs t r)) (u .exchange .sending)
   heard-sends told.Nothing r = refl
+  heard-sends told.PutOut r =
+      by-put-out (λ more (x : Exchange). x .sending ≡ u .exchange .sending) (hasNext u) (u .exchange) (λ e. refl)
+      (λ e. sending-ends (u .settings .terms) (u .exchange) .put-out)
   heard-sends told.Sent r =
-      by-sent (λ more (m : Midway). m .exchange .sending ≡ sendingOn told.Sent more (u .exchange .sending)) (hasNext u) (u .exchange) (noteBy r)
+      by-sent (λ more (m : Midway). m .exchange .sending ≡ sendingOn more (u .exchange .sending)) (hasNext u) (u .exchange) (noteBy r)
       (λ e. refl) (λ e. sending-ends (u .settings .terms) (u .exchange) .acknowledged)
   heard-sends told.Failed r = sending-ends (u .settings .terms) (u .exchange) .failed
-  heard-sends (told.Up n) r = sending-ends (u .settings .terms) (u .exchange) .judged (firstTen (h .received)) (part 10 n (h .received)) room
+  heard-sends (told.Up n) r =
+      judged-sends (u .exchange .sending) _
+      (sending-ends (u .settings .terms) (u .exchange) .judged (firstTen (h .received)) (part 10 n (h .received)) room)
 
   -- time has no part in it
   pub told-sends : (ticks : Bool) (t : Told) (r : Remark)
-      → passing ticks (u .settings .terms) (hearing t r (hears u h) room .midway) .exchange .sending ≡ sendingOn t (hasNext u) (u .exchange .sending)
+      → passing ticks (u .settings .terms) (hearing t r (hears u h) room .midway) .exchange .sending
+      ≡ sendingOn (goesOnBy t u (heardAs t r)) (u .exchange .sending)
   told-sends false t r = heard-sends t r
-  told-sends true t r = sending-ends (u .settings .terms) (hearing t r (hears u h) room .midway .exchange) .ticked ∙ heard-sends t r
+  told-sends true t r = sending-ends (u .settings .terms) (heardAs t r) .ticked ∙ heard-sends t r
+
+  -- where a block is put out, its message goes on
+  pub out-sends : (t : Told) (r : Remark) → t ≡ told.PutOut → heardAs t r .sending ≡ u .exchange .sending
+  out-sends t r e = heard-sends t r ∙ ap (λ (z : Told). sendingOn (goesOnBy z u (heardAs t r)) (u .exchange .sending)) e

@@ -8,8 +8,10 @@ use Rattle.line.specs.History as line
 use Rattle.line.specs.Theorems.{Reached as LineReached}
 use Rattle.exchange.proofs.Runs.{go-on}
 use Rattle.link.specs.History.{Made, Track, lineTrack, limitsIn, onLineIn, lentRoom, next, track, atStart}
-use Rattle.link.specs.Inside.{Reached, SettingsStay, LineInside}
+use Rattle.link.specs.State.{startBy}
+use Rattle.link.specs.Inside.{Reached, CallsReach, SettingsStay, LineInside}
 use Rattle.link.specs.declared.Settings.{Settings}
+use Rattle.link.specs.declared.Ranged.{Ranged}
 use Rattle.link.proofs.inside.Line.{line-goes, settings-kept}
 
 -- ---- any calls
@@ -39,6 +41,16 @@ start t w = atStart (w .settings) (w .setup .last) (w .room)
 pub reached-start : (t : Track) (w : Reached t) → Reached (start t w)
 unfolding track
 reached-start t w = record { setup = w .setup; settings = w .settings; started = w .started; room = w .room; whole = w .whole; calls = []; so = refl }
+
+pub calls-reach : CallsReach
+unfolding track
+calls-reach = record {
+  start = λ s z e room w. (
+    record { setup = s; settings = z; started = e; room = room; whole = w; calls = []; so = refl },
+    sym (ap (λ (k : Ranged). startBy k (s .last) .link) e),
+  );
+  call = λ t w m. (reached-next t w m, refl);
+}
 
 module _ (P : Track → Type 0) (step : (t : Track) → Reached t → (m : Made) → P t → P (next t m)) where
   all-calls : (t : Track) → Reached t → (ms : List Made) → P t → P (track t ms)

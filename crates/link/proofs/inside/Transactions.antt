@@ -5,7 +5,6 @@ use mathlib.Core.Bool.{true, false}
 use mathlib.Core.List.{List, [], _∷_, _++_, append-nil}
 use Rattle.line.specs.Line.{Heard}
 use Rattle.line.specs.History as line
-use Rattle.line.proofs.Alone.{block-alone}
 use Rattle.line.specs.declared.step.Told.{Told}
 use Rattle.line.specs.declared.step.Told.the-variants as told
 use Rattle.line.specs.declared.step.Remark.{Remark}
@@ -15,13 +14,13 @@ use Rattle.exchange.specs.Tick.{tickOf}
 use Rattle.exchange.proofs.Runs.{track-more}
 use Rattle.exchange.specs.declared.Exchange.{Exchange}
 use Rattle.link.specs.Answer.{noteBy}
-use Rattle.link.specs.Run.{Left, hasNext, blockOut, hears, hearing, stepped, byteStepped}
+use Rattle.link.specs.Run.{Left, hasNext, hears, hearing, stepped, byteStepped}
 use Rattle.link.specs.Call.{gated}
 use Rattle.link.specs.History.{Call, byte, tick, drained, request, called, unlessRefused, stepIn, toldOn, onExchange}
 use Rattle.link.specs.Inside.{exchangeOf, ExchangeGoes}
 use Rattle.link.specs.declared.Midway.{Midway}
 use Rattle.link.specs.declared.Link.{Link}
-use Rattle.link.proofs.Cases.{by-gate, by-byte, by-sent, by-request, unlent-room}
+use Rattle.link.proofs.Cases.{by-gate, by-byte, by-put-out, by-sent, by-request, unlent-room}
 use Rattle.link.proofs.Steps.{at-byte, at-tick, at-drained}
 
 module _ (u : Link) (room : List ℕ) (j : exchange.Joined) where
@@ -36,6 +35,8 @@ module _ (u : Link) (room : List ℕ) (j : exchange.Joined) where
       → Leads (toldOn t (hasNext u) (h .received)) (hearing t r (hears u h) room .midway .exchange) (hearing t r (hears u h) room .room)
   unfolding exchange.track
   told-leads told.Nothing r h = (refl, refl)
+  told-leads told.PutOut r h =
+      by-put-out (λ more (x : Exchange). Leads (toldOn told.PutOut more (h .received)) x room) (hasNext u) (u .exchange) (λ on. (refl, refl)) (λ last. (refl, refl))
   told-leads told.Sent r h =
       by-sent (λ more (m : Midway). Leads (toldOn told.Sent more (h .received)) (m .exchange) room) (hasNext u) (u .exchange) (noteBy r)
       (λ e. (refl, refl)) (λ e. (refl, refl))
@@ -71,15 +72,12 @@ module _ (u : Link) (room : List ℕ) (j : exchange.Joined) where
     tick-leads : After (tells ++ (exchange.tick ∷ [])) (stepped true u made room lent)
     tick-leads = then-tick tells _ _ (told-leads (made .step .told) (made .step .remark) made)
 
-  -- in the step that puts the whole block out nothing is told
+  -- where the whole block leaves they are told as in any step
   byte-leads : (b : ℕ) (fits : b < 256) (lent : List ℕ) → After (onExchange u (byte b fits)) (byteStepped u (stepIn u (byte b fits)) room lent)
   unfolding exchange.track
   byte-leads b fits lent =
-      by-byte (λ p l. After (onExchange u (byte b fits)) l) u (stepIn u (byte b fits)) room lent
-      (λ e. step-leads (line.byte b fits) lent) (λ c e. step-leads (line.byte b fits) lent)
-      (λ e.
-      let quiet = block-alone (u .settings .limits) (u .line) (u .received) .block (line.byte b fits) e .told in
-      subst (λ (t : Told). After (toldOn t (hasNext u) (stepIn u (byte b fits) .received) ++ []) (blockOut (hears u (stepIn u (byte b fits))) room lent)) (sym quiet) (refl, refl))
+      let lead = step-leads (line.byte b fits) lent in
+      by-byte (λ p l. After (onExchange u (byte b fits)) l) u (stepIn u (byte b fits)) room lent (λ e. lead) (λ c e. lead) (λ e. lead)
 
   -- ---- a request
 

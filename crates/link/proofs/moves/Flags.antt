@@ -41,7 +41,7 @@ use Rattle.link.specs.declared.Midway.{Midway}
 use Rattle.link.specs.declared.Note.{Note}
 use Rattle.link.specs.declared.Link.{Link}
 use Rattle.link.proofs.device.Told.{each-among}
-use Rattle.link.proofs.device.Says.{Said, silent, judged, sent, failed, step-said, saidIn, accepted-says, refused-says}
+use Rattle.link.proofs.device.Says.{Said, silent, judged, put-out, sent, failed, step-said, saidIn, accepted-says, refused-says}
 use Rattle.link.proofs.inside.Places.{lent, goes, sound-inside}
 use Rattle.link.proofs.Accepted.{accepted-calls}
 use Rattle.link.proofs.moves.Seen.{only, alone}
@@ -160,6 +160,7 @@ module _ (c : Terms) (x : Exchange) (four : Fours x) (next-four : Fours (failedO
 abbrev isBlock : exchange.Call → Bool
 isBlock (exchange.block h d) = true
 isBlock exchange.tick = false
+isBlock exchange.put-out = false
 isBlock exchange.acknowledged = false
 isBlock exchange.failed = false
 isBlock (exchange.request r) = false
@@ -214,10 +215,11 @@ module _ (t : Track) (w : Reached t) (m : Made) where
   unfolding exchange.track
   heard-raises n _ _ silent e = none-out _ e _ none (unflagged x x noneThrown refl refl (λ p k o. absurd o))
   heard-raises n _ _ (judged h d) e = raises _ e _ (BlockThrowsOut c x h d) (one-out h d e) (tells .judged h d (lent t m))
+  heard-raises n _ _ put-out e = none-out _ e _ (one-more refl none) (tells .put-out)
   heard-raises n _ _ sent e = none-out _ e _ (one-more refl none) (tells .sent)
   heard-raises n _ _ failed e = none-out _ e _ (one-more refl none) (tells .failed)
 
-  -- a block or an ACK is told alone
+  -- a block, one that is put out, or an ACK is told alone
   apart : {A : Type 0} (k : exchange.Call) → (Tells t m k → onExchangeIn t m ≡ k ∷ []) → onExchangeIn t m ≡ k ∷ exchange.tick ∷ [] → A
   apart k single e = absurd (omega (arith, ap length (sym (single (subst (Among k) (sym e) here)) ∙ e)))
 
@@ -227,6 +229,7 @@ module _ (t : Track) (w : Reached t) (m : Made) where
   unfolding exchange.track
   passed-raises n _ _ silent e = none-out _ e _ (one-more refl none) (subst (Flagged x _ noneThrown) (sym (tick-alone c x)) (tells .ticked))
   passed-raises n _ _ (judged h d) e = apart _ (alone t m (exchange.block h d) refl) e
+  passed-raises n _ _ put-out e = apart _ (alone t m exchange.put-out refl) e
   passed-raises n _ _ sent e = apart _ (alone t m exchange.acknowledged refl) e
   passed-raises n _ _ failed e =
       none-out _ e _ (one-more refl (one-more refl none)) (failed-flagged c x four (four-places _ (sound-on c x (lent t m) exchange.failed sound)))

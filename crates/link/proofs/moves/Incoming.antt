@@ -13,6 +13,8 @@ use Rattle.header.specs.declared.header.Header.{Header}
 use Rattle.settings.specs.declared.terms.Terms.{Terms}
 use Rattle.place.specs.OwnHistory as own
 use Rattle.place.specs.IncomingHistory as incoming
+use Rattle.place.specs.IncomingTheorems.{TicksOne}
+use Rattle.place.proofs.Completing.{incoming-ticked}
 use Rattle.table.specs.Own.{replyFor}
 use Rattle.table.specs.Incoming.{messageFor, openAlike, freeIncoming}
 use Rattle.table.proofs.Finding.{message-lowest, open-alike-lowest, free-incoming-lowest}
@@ -37,7 +39,7 @@ use Rattle.exchange.proofs.Runs.{four-places}
 use Rattle.link.specs.History.{Made, Track, exchangeTrack, termsIn, next}
 use Rattle.link.specs.Inside.{Reached}
 use Rattle.link.specs.Verdicts.{Tells}
-use Rattle.link.specs.Moves.{Ticks, noted, GoesUp, Continued, TakesPlace, Began, quieter, IncomingStep, same, passes, begins, keeps, spoils, frees, IncomingSeen}
+use Rattle.link.specs.Moves.{Ticks, noted, GoesUp, Continued, TakesPlace, Began, quieter, IncomingStep, same, passes, begins, keeps, spoils, frees, BeginsOne, ContinuesOne, BreaksOne, IncomingSeen}
 use Rattle.link.proofs.inside.Places.{lent, sound-inside}
 use Rattle.link.proofs.moves.Seen.{isTick, alone, by-seen, seen-with, seen-alone, seen-refused, by-taken, seen-taken, taken-named, named-at}
 use Rattle.link.proofs.moves.Notes.{by-note, kept-note, spoilt-note, up-noted}
@@ -145,12 +147,23 @@ module _ (t : Track) (w : Reached t) (p : ℕ) (within : p < 4) where
     one-step : (k : exchange.Call) → Tells t m k → (isTick k ≡ false → Ticks t m → ⊥) → Goes (incomingSees c p x room s k)
     one-step (exchange.block h d) a n = block-step h d (n refl) a
     one-step exchange.tick a n = passes a
+    one-step exchange.put-out a n = same (n refl)
     one-step exchange.acknowledged a n = same (n refl)
     one-step exchange.failed a n = same (n refl)
     one-step (exchange.request r) a n = by-taken t m r a p Goes (incomingTaken s r) s (λ y o. took r a (n refl) y) (same (n refl))
 
     incoming-step : Goes (next t m .incoming p)
     incoming-step = by-seen t m (incomingSees c p) s Goes same one-step (λ a n. passes n)
+
+    -- ticks since the last block kept are counted by a tick, and start with a block that is kept
+    quiet-same : (Ticks t m → ⊥) → ((h d : List ℕ) → Began t m p h d → ⊥) → ((h d : List ℕ) → Continued t m p 21 h d → ⊥)
+        → (y : incoming.Seen) → Goes y → y .quiet ≡ s .quiet
+    quiet-same no-tick not-begun not-kept _ (same n) = refl
+    quiet-same no-tick not-begun not-kept _ (passes n) = absurd (no-tick n)
+    quiet-same no-tick not-begun not-kept _ (begins h d g) = absurd (not-begun h d g)
+    quiet-same no-tick not-begun not-kept _ (keeps h d g) = absurd (not-kept h d g)
+    quiet-same no-tick not-begun not-kept _ (spoils n h d i g) = refl
+    quiet-same no-tick not-begun not-kept _ (frees f) = refl
 
     -- ---- and back
 
@@ -215,6 +228,7 @@ pub incoming-seen : IncomingSeen
 incoming-seen t w p k m =
     let look = incomingSees (termsIn t) p in
     let s = t .incoming p in
+    let one : TicksOne s (quieter s) = incoming-ticked (termsIn t) (incomingPlace (t .link .exchange) p) s in
     record {
       one-of = incoming-step t w p k m;
       refused = seen-refused t m look s;
@@ -223,4 +237,14 @@ incoming-seen t w p k m =
       kept = kept-so t w p k m;
       spoilt = spoilt-so t w p k m;
       released = λ f. seen-taken t m (free-incoming p) f look s p (freedSeen s) (named-at t m (free-incoming p) f) refl;
+      ticks-one = seen-with t m look s exchange.tick (TicksOne s) one (λ a. one);
+      begins-one = λ h d g.
+          subst (λ y. BeginsOne y (headerOf h) (length d)) (sym (begun-so t w p k m h d g .0))
+          (record { begun = refl; kept = refl; bytes = refl; spoilt = refl; quiet = refl });
+      continues-one = λ h d g.
+          subst (λ y. ContinuesOne s y (headerOf h) (length d)) (sym (kept-so t w p k m h d g .0))
+          (record { begun = refl; kept = refl; bytes = refl; spoilt = refl; quiet = refl });
+      breaks-one = λ n h d i g.
+          subst (BreaksOne s) (sym (spoilt-so t w p k m n h d i g)) (record { begun = refl; kept = refl; bytes = refl; spoilt = refl });
+      quiet-kept = λ a b f. quiet-same t w p k m a b f (next t m .incoming p) (incoming-step t w p k m);
     }

@@ -32,7 +32,7 @@ use Rattle.link.specs.declared.Note.{Note}
 use Rattle.link.specs.declared.Link.{Link}
 use Rattle.link.proofs.inside.Places.{lent, sound-inside}
 use Rattle.link.proofs.device.Told.{front-among, told-exactly}
-use Rattle.link.proofs.device.Says.{Said, silent, judged, sent, failed, step-said, remarkNote, ticks, accepted-says, refused-says}
+use Rattle.link.proofs.device.Says.{Said, silent, judged, put-out, sent, failed, step-said, remarkNote, ticks, accepted-says, refused-says}
 use Rattle.link.proofs.device.Remarks.{up-unremarked}
 use Rattle.link.proofs.Accepted.{accepted-calls}
 
@@ -88,6 +88,7 @@ Rising ks n said = ((h : List ℕ) × (d : List ℕ) × Among (exchange.block h 
 said-note : (u : Link) (room : List ℕ) (n : Note) (ks : List exchange.Call) (m : Midway) → Said u room n ks m → Rising ks n (m .note)
 said-note u room n _ _ silent = inr refl
 said-note u room n _ _ (judged h d) = inl (h, d, here)
+said-note u room n _ _ put-out = inr refl
 said-note u room n _ _ sent = inr refl
 said-note u room n _ _ failed = inr refl
 
@@ -159,7 +160,8 @@ unnoted-note remark.Gap e = absurd (false≢true e)
 unnoted-note (remark.Bad fault) e = absurd (false≢true e)
 
 module _ (t : Track) (w : Reached t) (m : Made) where
-  by-block : (h d : List ℕ) → GoesUp t m h d → (n : ℕ) → (noted t m ≡ n) ↔ Ruled (termsIn t) (t .link .exchange) h d n
+  -- a block's is by the seven rules
+  pub by-block : (h d : List ℕ) → GoesUp t m h d → (n : ℕ) → (noted t m ≡ n) ↔ Ruled (termsIn t) (t .link .exchange) h d n
   by-block h d g n =
       let x = t .link .exchange in
       let r = notes-exactly (termsIn t) x h d (lent t m) (four-places x (sound-inside t w)) n in

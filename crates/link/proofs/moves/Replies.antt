@@ -107,6 +107,7 @@ module _ (t : Track) (w : Reached t) (p : ℕ) (within : p < 4) (m : Made) where
   one-step : (k : exchange.Call) → Tells t m k → Goes (look x (lent t m) s k)
   one-step (exchange.block h d) a = same
   one-step exchange.tick a = same
+  one-step exchange.put-out a = same
   one-step exchange.acknowledged a = either-sent sent (λ o. sends (record { told = a; of-it = o }))
   one-step exchange.failed a = lost-step a
   one-step (exchange.request r) a = by-taken t m r a p Goes (wayTaken s r) s (λ e o. took r a e) same

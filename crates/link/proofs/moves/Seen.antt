@@ -48,6 +48,7 @@ only k j a = each-among (λ i. i ≡ j) (j ∷ []) (Each.one-more refl Each.none
 abbrev paired : exchange.Call → Bool
 paired (exchange.block h d) = false
 paired exchange.tick = true
+paired exchange.put-out = false
 paired exchange.acknowledged = false
 paired exchange.failed = true
 paired (exchange.request r) = false
@@ -56,6 +57,7 @@ paired (exchange.request r) = false
 abbrev pub isTick : exchange.Call → Bool
 isTick (exchange.block h d) = false
 isTick exchange.tick = true
+isTick exchange.put-out = false
 isTick exchange.acknowledged = false
 isTick exchange.failed = false
 isTick (exchange.request r) = false

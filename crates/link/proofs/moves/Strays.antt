@@ -5,23 +5,24 @@ use mathlib.Core.Bool.{Bool, false, cond, false≢true}
 use mathlib.Core.List.{List, []}
 use mathlib.Core.Logic.{⊎-elim}
 use native.Mathlib.Omega.{arith}
-use lib.ListN.{length}
+use lib.ListN.{length, getD, set}
 use lib.Seq.{getD-set-other}
 use borrow.Author.Tests.{eqb-false}
 use Rattle.header.specs.Header.{headerOf}
 use Rattle.settings.specs.declared.terms.Terms.{Terms}
 use Rattle.place.specs.Own.{freshOwn}
 use Rattle.place.specs.OwnHistory as own
+use Rattle.place.specs.declared.Own.{Own}
 use Rattle.table.specs.Own.{ownAt, replyFor}
 use Rattle.table.specs.Incoming.{incomingAt, messageFor, openAlike, freeIncoming}
 use Rattle.exchange.specs.Note.{noteNumber as blockNote}
-use Rattle.exchange.specs.Exchange.{ownPlace, incomingPlace, putOwn, putIncoming, withSending, savedNow}
-use Rattle.exchange.specs.Send.{endedOwn, endedReply, sentBy, failedBy}
+use Rattle.exchange.specs.Exchange.{ownPlace, incomingPlace, putOwn, putIncoming, withSending, sentFrom}
+use Rattle.exchange.specs.Send.{putOutBy, endedOwn, endedReply, sentBy, failedBy}
 use Rattle.exchange.specs.Judge.{judgeOf}
 use Rattle.exchange.specs.Request.{Request}
-use Rattle.exchange.specs.Rules.{Untouched}
+use Rattle.exchange.specs.Rules.{onlySaved, Untouched}
 use Rattle.exchange.specs.History as exchange
-use Rattle.exchange.specs.Watching.{foundAt, sentFrom, ownSees, takenBy, seesBlock, incomingSees, watch}
+use Rattle.exchange.specs.Watching.{foundAt, ownSees, takenBy, seesBlock, incomingSees, watch}
 use Rattle.exchange.specs.declared.Note.{Note}
 use Rattle.exchange.specs.declared.Note.the-variants.{Kept, Misrouted, Duplicate, Stray as Strayed, NoPlace, TooLong, Empty}
 use Rattle.exchange.specs.declared.Sending.{Sending}
@@ -60,12 +61,11 @@ tables y z e = (ap (λ (x : Exchange). x .own) e, ap (λ (x : Exchange). x .inco
 -- the tables are as they were
 same-tables : (c : Terms) (x : Exchange) (h d room : List ℕ) (n : Note) → judgeOf c x h d room .answer .note ≡ n → 22 ≤ blockNote n → blockNote n ≤ 25
     → SameTables (judgeOf c x h d room .answer .exchange) x
-unfolding savedNow
 same-tables c x h d room Kept e a b = absurd (omega arith)
 same-tables c x h d room Misrouted e a b = tables _ x (judge-leaves c x h d room .misrouted (ap blockNote e) .state)
 same-tables c x h d room Duplicate e a b = tables _ x (judge-leaves c x h d room .duplicate (ap blockNote e) .state)
-same-tables c x h d room Strayed e a b = tables _ (savedNow x h) (judge-leaves c x h d room .stray (ap blockNote e) .state)
-same-tables c x h d room NoPlace e a b = tables _ (savedNow x h) (judge-leaves c x h d room .no-place (ap blockNote e) .state)
+same-tables c x h d room Strayed e a b = tables _ (onlySaved x h) (judge-leaves c x h d room .stray (ap blockNote e) .state)
+same-tables c x h d room NoPlace e a b = tables _ (onlySaved x h) (judge-leaves c x h d room .no-place (ap blockNote e) .state)
 same-tables c x h d room TooLong e a b = absurd (omega arith)
 same-tables c x h d room Empty e a b = absurd (omega arith)
 
@@ -120,14 +120,15 @@ duplicate-leaves t m i =
 
 -- ---- a byte, and a place that is not the sender's
 
--- however the sending ends
-ended-elsewhere : (x : Exchange) (p : ℕ) (q : Sending) → sentFrom q p ≡ false
-    → (ownPlace (sentBy q x .exchange) p ≡ ownPlace x p) × (ownPlace (failedBy q x .exchange) p ≡ ownPlace x p)
+-- where its last block is put out, and however the sending ends
+sent-elsewhere : (x : Exchange) (p : ℕ) (q : Sending) → sentFrom q p ≡ false
+    → (ownPlace (putOutBy q x) p ≡ ownPlace x p) × (ownPlace (sentBy q x .exchange) p ≡ ownPlace x p) × (ownPlace (failedBy q x .exchange) p ≡ ownPlace x p)
 unfolding endedOwn endedReply putOwn putIncoming withSending
-ended-elsewhere x p sending.Nothing e = (refl, refl)
-ended-elsewhere x p (sending.Primary q n) e =
-    let other : p ≡ q → ⊥ = λ z. eqb-false q p e (sym z) in (getD-set-other (x .own) q p _ freshOwn other, getD-set-other (x .own) q p _ freshOwn other)
-ended-elsewhere x p (sending.Reply q f n) e = (refl, refl)
+sent-elsewhere x p sending.Nothing e = (refl, refl, refl)
+sent-elsewhere x p (sending.Primary q n) e =
+    let other : (a : Own) → getD (set (x .own) q a) p freshOwn ≡ getD (x .own) p freshOwn = λ a. getD-set-other (x .own) q p a freshOwn (λ z. eqb-false q p e (sym z)) in
+    (other _, other _, other _)
+sent-elsewhere x p (sending.Reply q f n) e = (refl, refl, refl)
 
 module _ (t : Track) (m : Made) (p b : ℕ) (fits : b < 256) (e : m .call ≡ byte b fits) (without : (h d : List ℕ) → GoesUp t m h d → ⊥) (o : sentFrom (t .link .exchange .sending) p ≡ false) where
   abbrev Elsewhere : Exchange → own.Seen → Type 0
@@ -144,10 +145,12 @@ module _ (t : Track) (m : Made) (p b : ℕ) (fits : b < 256) (e : m .call ≡ by
       → Elsewhere (exchange.called (termsIn t) (t .link .exchange) (lent t m) k .exchange) (ownSees (termsIn t) p (t .link .exchange) (lent t m) (t .own p) k)
   one-elsewhere (exchange.block h d) a = absurd (without h d a)
   one-elsewhere exchange.tick a = no-tick a
+  one-elsewhere exchange.put-out a =
+      (sent-elsewhere (t .link .exchange) p (t .link .exchange .sending) o .0, ap (λ (z : Bool). cond z (own.wentOut (t .own p .request) (t .own p)) (t .own p)) o)
   one-elsewhere exchange.acknowledged a =
-      (ended-elsewhere (t .link .exchange) p (t .link .exchange .sending) o .0, ap (λ (z : Bool). cond z (own.acked (t .own p .request) (t .own p)) (t .own p)) o)
+      (sent-elsewhere (t .link .exchange) p (t .link .exchange .sending) o .1, ap (λ (z : Bool). cond z (own.acked (t .own p .request) (t .own p)) (t .own p)) o)
   one-elsewhere exchange.failed a =
-      (ended-elsewhere (t .link .exchange) p (t .link .exchange .sending) o .1, ap (λ (z : Bool). cond z (own.gaveUp (t .own p .request) (t .own p)) (t .own p)) o)
+      (sent-elsewhere (t .link .exchange) p (t .link .exchange .sending) o .2, ap (λ (z : Bool). cond z (own.gaveUp (t .own p .request) (t .own p)) (t .own p)) o)
   one-elsewhere (exchange.request r) a = no-request r a
 
   elsewhere : Elsewhere (exchange.track (termsIn t) (exchangeTrack t (lent t m)) (onExchangeIn t m) .exchange) (next t m .own p)

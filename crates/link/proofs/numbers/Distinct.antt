@@ -3,7 +3,7 @@
 use Prim.Native.Nat.{ℕ, _%_, _≤_, _<_}
 use mathlib.Core.Path.{_≡_, refl, sym, ap, subst, _∙_}
 use mathlib.Core.Bool.{true, false, false≢true}
-use mathlib.Core.Logic.{_≢_}
+use mathlib.Core.Logic.{_≢_, ⊎-elim}
 use Rattle.header.specs.declared.header.Header.{Header}
 use Rattle.place.specs.OwnHistory as own
 use Rattle.place.specs.Own.{standingAt, freeBy, ownStanding, primaryOf}
@@ -12,11 +12,10 @@ use Rattle.place.specs.declared.OwnStage.the-variants as stage
 use Rattle.place.specs.declared.Own.{Own}
 use Rattle.place.specs.declared.Standing.the-variants as standing
 use Rattle.place.proofs.Verdicts.{request-shown, free-exactly as free-exactly'}
-use Rattle.exchange.specs.Exchange.{ownPlace}
-use Rattle.exchange.specs.Tick.{timedAt, ownTimed}
+use Rattle.exchange.specs.Exchange.{ownPlace, sentFrom}
+use Rattle.exchange.specs.Assembly.{expectsAt}
 use Rattle.exchange.specs.Request.{primary}
 use Rattle.exchange.specs.Reading.{ownReading}
-use Rattle.exchange.specs.Watching.{sentFrom}
 use Rattle.exchange.specs.Numbers.{numberShown, NumbersSeen, inUse, NumberNew}
 use Rattle.exchange.proofs.Numbering.{numbers-kept-on, number-distinct}
 use Rattle.exchange.proofs.Runs.{four-places, anyone, run-alone}
@@ -30,7 +29,7 @@ use Rattle.link.specs.History.{Made, Track, exchangeTrack, termsIn, onEx
 use Rattle.link.specs.Inside.{Reached}
 use Rattle.link.specs.Verdicts.{requestIn}
 use Rattle.link.specs.Numbers.{PlacesDistinct}
-use Rattle.link.specs.Moves.{Opens, OwnStep, same, passes, loses, loses-passing, opens, acknowledges, frees, keeps, spoils}
+use Rattle.link.specs.Moves.{Opens, OwnStep, same, passes, loses, loses-passing, opens, goes-out, acknowledges, frees, keeps, spoils}
 use Rattle.link.proofs.inside.Reached.{reached-next, by-calls}
 use Rattle.link.proofs.inside.Places.{lent, goes, sound-inside, places-inside}
 use Rattle.link.proofs.moves.Own.{underway-exactly, own-seen}
@@ -59,7 +58,9 @@ in-use (reading.Place h s r) n = refl
 abbrev IsSome : own.Request → Type 0
 IsSome own.none = ⊥
 IsSome own.underway = Unit {0}
+IsSome own.out = Unit {0}
 IsSome own.acknowledged = Unit {0}
+IsSome own.proved = Unit {0}
 IsSome own.lost = Unit {0}
 
 pub some : (r : own.Request) → IsSome r → r ≢ own.none
@@ -96,7 +97,7 @@ module _ (t : Track) (w : Reached t) (m : Made) (g : Distinct t) where
     was s step = by s step
       where
         under : sentFrom (t .link .exchange .sending) p ≡ true → Used t p
-        under e = some (t .own p .request) (subst IsSome (sym (underway-exactly t w p within .1 e)) tt)
+        under e = some (t .own p .request) (⊎-elim (λ z. subst IsSome (sym z) tt) (λ z. subst IsSome (sym z) tt) (underway-exactly t w p within .1 e))
 
         by : (s : own.Seen) → OwnStep t m p s → Was t m p s
         by _ (same n) = as-was (λ u. u) refl
@@ -104,10 +105,11 @@ module _ (t : Track) (w : Reached t) (m : Made) (g : Distinct t) where
         by _ (loses n l) = as-was (λ u. under (l .of-it)) refl
         by _ (loses-passing k l) = as-was (λ u. under (l .of-it)) refl
         by _ (opens q o) = anew q o
+        by _ (goes-out f) = as-was (λ u. under (f .puts-out .of-it)) refl
         by _ (acknowledges a) = as-was (λ u. under (a .of-it)) refl
         by _ (frees f) = as-was (λ u. absurd (u refl)) refl
-        by _ (keeps h d r) = as-was (λ u. u) refl
-        by _ (spoils n h d i r) = as-was (λ u. u) refl
+        by _ (keeps h d r) = as-was (λ u e. u (ap own.provenBy e)) refl
+        by _ (spoils n h d i r) = as-was (λ u e. u (ap own.provenBy e)) refl
 
     now : Was t m p (next t m .own p)
     now = was (next t m .own p) (own-seen t w p within m .one-of)
@@ -167,21 +169,23 @@ places-distinct t w fits p q pw qw ne up uq e =
     let b = used-read t w q qw uq in
     distinct t w fits .apart p q pw qw ne a b (sym (number-read t w p pw a) ∙ e ∙ number-read t w q qw b)
 
--- where T3 or T4 runs there is a request
-timed : (s : OwnStage) → timedAt s ≡ true → freeBy (standingAt s) ≡ false
-timed stage.Free e = absurd (false≢true e)
-timed stage.Sending e = absurd (false≢true e)
-timed (stage.Awaiting n) e = refl
-timed (stage.Replying a) e = refl
-timed (stage.Done v r) e = absurd (false≢true e)
+-- where a reply is awaited, or blocks of it are kept, there is a request
+expected : (s : OwnStage) → expectsAt s ≡ true → freeBy (standingAt s) ≡ false
+expected stage.Free e = absurd (false≢true e)
+expected stage.Sending e = absurd (false≢true e)
+expected stage.PutOut e = refl
+expected (stage.Awaiting n) e = refl
+expected (stage.Replying a) e = refl
+expected (stage.Done v r) e = absurd (false≢true e)
 
--- so at no other place it runs for a primary with these system bytes
-pub alone : (t : Track) (w : Reached t) → w .setup .last ≤ 65535 → (p q : ℕ) → p < 4 → q < 4 → q ≢ p → Used t p → ownTimed (ownPlace (t .link .exchange) q) ≡ true
+-- so at no other place one is to a primary with these system bytes
+pub alone : (t : Track) (w : Reached t) → w .setup .last ≤ 65535 → (p q : ℕ) → p < 4 → q < 4 → q ≢ p → Used t p
+    → expectsAt (ownPlace (t .link .exchange) q .stage) ≡ true
     → primaryOf (ownPlace (t .link .exchange) q) .system ≢ t .own p .header .system
 alone t w fits p q pw qw ne used runs e =
     let o : Own = ownPlace (t .link .exchange) q in
     let inside = places-inside t w .own q qw in
-    let there : ownStanding o ≢ standing.Free = λ z. false≢true (sym (timed (o .stage) runs) ∙ ap freeBy z) in
+    let there : ownStanding o ≢ standing.Free = λ z. false≢true (sym (expected (o .stage) runs) ∙ ap freeBy z) in
     let head : primaryOf o ≡ t .own q .header = request-shown (termsIn t) _ inside there in
     distinct t w fits .apart q p qw pw ne (λ z. there (free-exactly' (termsIn t) _ inside .1 z)) used
     (ap (λ (h : Header). h .system % 65536) (sym head) ∙ ap (λ (n : ℕ). n % 65536) e)

@@ -1,10 +1,9 @@
 -- The transaction numbers that the unit keeps are those that an onlooker keeps (`specs/Numbers.antt`). Assumes nothing.
-use Prim.Native.Nat.{ℕ}
+use Prim.Native.Nat.{ℕ, _≤_}
 use mathlib.Core.Path.{_≡_, refl, sym, ap, _∙_, subst}
 use mathlib.Core.Bool.{true, false≢true}
 use mathlib.Core.List.{List, [], _∷_}
 use Rattle.settings.specs.declared.terms.Terms.{Terms}
-use Rattle.exchange.specs.Send.{failedOf}
 use Rattle.exchange.specs.Reading.{ownReading}
 use Rattle.exchange.specs.Request.{Request, primary}
 use Rattle.exchange.specs.Numbers.{numberShown, NumbersSeen, latestSeen, lastAsked, lastSeen as lastTold, numbersAtStart, NumbersAre, NumberNew}
@@ -14,22 +13,19 @@ use Rattle.exchange.specs.declared.Exchange.{Exchange}
 use Rattle.exchange.specs.declared.Asked.{Asked}
 use Rattle.exchange.specs.declared.Asked.the-variants as asked
 use Rattle.exchange.proofs.Numbering.{stays-on, numbers-kept-on, number-distinct as number-new}
-use Rattle.exchange.proofs.Runs.{Sound, four-places, sound-on}
+use Rattle.exchange.proofs.Runs.{Sound, four-places}
 use Rattle.link.specs.Run.{Left}
-use Rattle.link.specs.History.{Call, byte, tick, drained, request, called, Room, Made, unlessRefused, Track, exchangeTrack, termsIn, answered, onExchangeIn, next, track}
+use Rattle.link.specs.History.{Call, byte, tick, drained, request, called, Room, Made, unlessRefused, Track, exchangeTrack, termsIn, answered, next, track}
 use Rattle.link.specs.Inside.{Reached}
-use Rattle.link.specs.Verdicts.{Among, here}
 use Rattle.link.specs.Moves.{onTheLine}
-use Rattle.link.specs.Device as device
-use Rattle.link.specs.Device.{Few}
 use Rattle.link.specs.Numbers.{lastOf, numbersSees, numbersWatch, numbersSeen, NumbersKept, NumberDistinct}
 use Rattle.link.specs.declared.Outcome.the-variants as outcome
 use Rattle.link.proofs.Cases.{by-request, answering}
 use Rattle.link.proofs.inside.Reached.{reached-next, start, reached-start}
 use Rattle.link.proofs.inside.Places.{lent, goes, sound-inside}
-use Rattle.link.proofs.device.Told.{told-exactly, few-told}
+use Rattle.link.proofs.device.Told.{told-exactly}
 use Rattle.link.proofs.verdicts.Taken.{request-taken, request-leads}
-use Rattle.exchange.proofs.Latest.{two-latest}
+use Rattle.link.proofs.numbers.Given.{last-stays, latest-seen}
 
 -- ---- one call of the unit
 
@@ -51,11 +47,8 @@ module _ (t : Track) (sound : Sound (t .link .exchange)) (s : NumbersSeen) (w : 
   abbrev Keeps : ((ℕ → OwnReading) → ℕ) → Exchange → Type 0
   Keeps last z = NumbersAre z (record { last = last (ownReading z); latest = latestSeen (ownReading x) (ownReading z) (s .latest) })
 
-  -- no number is given
-  abbrev Kept : List exchange.Call → Type 0
-  Kept ks = Keeps (λ own. s .last) (after ks)
-
-  none : Kept []
+  -- nothing is told
+  none : Keeps (λ own. s .last) (after [])
   unfolding exchange.track
   none = stays-on x s w x refl
 
@@ -63,30 +56,16 @@ module _ (t : Track) (sound : Sound (t .link .exchange)) (s : NumbersSeen) (w : 
   unfolding exchange.track
   one k = numbers-kept-on c x room (four-places x sound) s k w
 
-  -- a send that failed, and the tick that it failed on
-  both : Kept (exchange.failed ∷ exchange.tick ∷ [])
-  unfolding exchange.track
-  both =
-      let next-four = four-places _ (sound-on c x room exchange.failed sound) in
-      subst (λ n. NumbersAre (after (exchange.failed ∷ exchange.tick ∷ [])) (record { last = s .last; latest = n }))
-      (two-latest c x (four-places x sound) next-four (s .latest))
-      (numbers-kept-on c (failedOf x .exchange) room next-four _ exchange.tick (one exchange.failed))
-
-  -- a request alone gives one
-  few-kept : (ks : List exchange.Call) → Few ks → ((r : Request) → Among (exchange.request r) ks → ⊥) → Kept ks
-  few-kept _ device.none n = none
-  few-kept _ (device.one (exchange.block h d)) n = one (exchange.block h d)
-  few-kept _ (device.one exchange.tick) n = one exchange.tick
-  few-kept _ (device.one exchange.acknowledged) n = one exchange.acknowledged
-  few-kept _ (device.one exchange.failed) n = one exchange.failed
-  few-kept _ (device.one (exchange.request r)) n = absurd (n r here)
-  few-kept _ device.lost-on-tick n = both
-
-  -- a byte, a tick, drained
+  -- a byte, a tick, drained: a request alone gives a number
   quietly : onTheLine (m .call) ≡ true → Keeps (λ own. s .last) (next t m .link .exchange)
   quietly l =
-      subst (Keeps (λ own. s .last)) (goes t m)
-      (few-kept (onExchangeIn t m) (few-told t m) (λ r a. false≢true (sym (ap onTheLine (told-exactly t m .asks r .0 a .1)) ∙ l)))
+      let y = next t m .link .exchange in
+      let stays = last-stays t sound m (λ q d a. false≢true (sym (ap onTheLine (told-exactly t m .asks (primary q d) .0 a .1)) ∙ l)) in
+      record {
+        last = stays ∙ w .last;
+        latest = latest-seen t sound m ∙ ap (latestSeen (ownReading x) (ownReading y)) (w .latest);
+        fits = subst (λ n. n ≤ 65535) (sym stays) (w .fits);
+      }
 
   -- a request, refused or not
   module _ (r : Request) where

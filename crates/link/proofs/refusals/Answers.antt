@@ -12,7 +12,7 @@ use Rattle.exchange.proofs.Accepting.{accepted-opens, accepted-replies, accepte
 use Rattle.exchange.proofs.Releases.{lent-exactly}
 use Rattle.link.specs.Run.{stepped, byteStep, byteStepped, tickStep, drainedStep}
 use Rattle.link.specs.History.{byte, tick, drained, request}
-use Rattle.link.specs.Refusals.{About, AboutPlace, AboutNone, PlaceAnswered, RequestsAre, AllElse, ReleaseApart}
+use Rattle.link.specs.Refusals.{About, AboutPlace, AboutNone, PlaceAnswered, RequestsAre, CallsAre, AllElse, ReleaseApart}
 use Rattle.link.specs.declared.Link.{Link}
 use Rattle.link.proofs.Cases.{by-gate, by-byte, by-request}
 
@@ -36,7 +36,7 @@ place-answered u room o (request r) four =
     by-request u r room o (λ l. AboutPlace (u .exchange) r (l .answer .outcome)) (λ n e. tt)
     (λ p e l. about (u .settings .terms) (u .exchange) r room four p e) (λ p e l. about (u .settings .terms) (u .exchange) r room four p e) (λ n. tt)
 
--- ---- the requests by name
+-- ---- the calls by name
 
 pub requests-are : RequestsAre
 requests-are = record {
@@ -45,6 +45,9 @@ requests-are = record {
   frees-own = λ u p room o. refl;
   frees-incoming = λ u p room o. refl;
 }
+
+pub calls-are : CallsAre
+calls-are = record { byte-in = λ u b fits room o. refl; ticks = λ u room o. refl; drains = λ u room o. refl }
 
 -- ---- a release
 

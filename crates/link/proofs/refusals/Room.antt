@@ -148,6 +148,7 @@ by-told :
     (P : Telling → Type 0) (t : Told) (r : Remark) (u : Link) (room : List ℕ)
     → ((m : Midway) → m .note ≡ noteBy r → P (telling m room)) → ((n : ℕ) → t ≡ told.Up n → P (hearing (told.Up n) r u room)) → P (hearing t r u room)
 by-told P told.Nothing r u room still up = still _ refl
+by-told P told.PutOut r u room still up = still _ refl
 by-told P told.Sent r u room still up =
     by-sent (λ more (m : Midway). P (telling m room)) (hasNext u) (u .exchange) (noteBy r) (λ e. still _ refl) (λ e. still _ refl)
 by-told P told.Failed r u room still up = still _ refl
@@ -202,12 +203,12 @@ module _ (u : Link) (room o : List ℕ) where
   byte-room : (h : Heard) → Spared (byteStepped u h room o)
   byte-room h =
       let w = told-room (h .step .told) (h .step .remark) (hears u h) room in
-      by-byte (λ p l. Spared l) u h room o (λ e. w) (λ c e. w) (λ e n. refl)
+      by-byte (λ p l. Spared l) u h room o (λ e. w) (λ c e. w) (λ e. w)
 
   byte-kept : (h : Heard) → Filled h (byteStepped u h room o)
   byte-kept h =
       let w = told-kept (h .step .told) (h .step .remark) (hears u h) room in
-      by-byte (λ p l. Filled h l) u h room o (λ e. w) (λ c e. w) (λ e n. absurd (omega arith))
+      by-byte (λ p l. Filled h l) u h room o (λ e. w) (λ c e. w) (λ e. w)
 
   byte-size : (h : Heard) → length (byteStepped u h room o .room) ≡ length room
   byte-size h =

@@ -1,11 +1,12 @@
 -- A start is refused exactly if a setting is out of its range, and what it hands back then is of no use (`specs/Refusals.antt`).
 -- Assumes nothing.
-use Prim.Native.Nat.{ℕ}
+use Prim.Native.Nat.{ℕ, zero, suc}
 use mathlib.Core.Path.{_≡_, refl, sym, ap, subst}
 use mathlib.Core.Bool.{Bool, true, false, cond, false≢true}
 use mathlib.Core.Logic.{_↔_}
 use native.Mathlib.Omega.{arith}
 use lib.Dec.{ltb}
+use lib.ListN.{getD, replicate}
 use borrow.Author.Tests.{ltb-true}
 use Rattle.wire.proofs.Choice.{chosen, judged}
 use Rattle.settings.specs.Limits.{panelInRange, limitsOf, takenOf}
@@ -15,6 +16,12 @@ use Rattle.settings.proofs.Taking.{fits, taken-in-range}
 use Rattle.settings.proofs.Agreeing.{fits-terms, terms-in-range}
 use Rattle.settings.specs.declared.limits.Taken.the-variants as taken
 use Rattle.settings.specs.declared.terms.Agreed.the-variants as agreed
+use Rattle.place.specs.Own.{freshOwn}
+use Rattle.place.specs.Incoming.{freshIncoming}
+use Rattle.exchange.specs.Reading.{ownReading, incomingReading}
+use Rattle.exchange.specs.declared.Exchange.{Exchange}
+use Rattle.exchange.specs.declared.OwnReading.the-variants as reading
+use Rattle.exchange.specs.declared.IncomingReading.the-variants as arrival
 use Rattle.exchange.proofs.Tests.{fails}
 use Rattle.link.specs.Answer.{outcomeNumber}
 use Rattle.link.specs.Setup.{panelOf, messagesOf, agreedBy, takenBy, rangedOf, noSettings, settingsInRange}
@@ -121,6 +128,20 @@ not-started = record {
       });
 }
 
+-- where four places are free none is read, and above 3 there is none
+alike : {A : Type 0} (n p : ℕ) (a : A) → getD (replicate n a) p a ≡ a
+alike zero p a = refl
+alike (suc n) zero a = refl
+alike (suc n) (suc p) a = alike n p a
+
+no-own-place : (x : Exchange) (p : ℕ) → x .own ≡ replicate 4 freshOwn → ownReading x p ≡ reading.NoPlace
+unfolding ownReading
+no-own-place x p e = rw (e, alike 4 p freshOwn) refl
+
+no-incoming-place : (x : Exchange) (p : ℕ) → x .incoming ≡ replicate 4 freshIncoming → incomingReading x p ≡ arrival.NoPlace
+unfolding incomingReading
+no-incoming-place x p e = rw (e, alike 4 p freshIncoming) refl
+
 -- where the settings fit, 0 is the only number, and where not, 4
 only-0 : (s : Setup) → SetupFits s → {n : ℕ} → StartRuled s n → _≡_ {A = ℕ} 0 n
 only-0 s f (start-4 m) = absurd (m f)
@@ -137,6 +158,27 @@ start-exactly = record {
       (λ f. (λ e. subst (StartRuled s) e (start-0 f), only-0 s f))
       (λ m. (λ e. subst (StartRuled s) e (start-4 m), only-4 s m));
   accepted = λ s f.
-      by-start s (Started s) (λ g. record { link = refl; settings = refl; line = refl; exchange = refl; block = refl; done = refl; count = refl; note = refl; flags = refl }) (λ m. absurd (m f));
+      by-start s (Started s)
+      (λ g.
+      record {
+        link = refl;
+        settings = refl;
+        line = refl;
+        exchange = refl;
+        block = refl;
+        no-own = λ p. no-own-place _ p refl;
+        no-incoming = λ p. no-incoming-place _ p refl;
+        none-saved = refl;
+        none-sent = refl;
+        last = refl;
+        latest = refl;
+        idle = refl;
+        none-held = refl;
+        done = refl;
+        count = refl;
+        note = refl;
+        flags = refl;
+      })
+      (λ m. absurd (m f));
   refused = λ s m. by-start s NotStarted (λ f. absurd (m f)) (λ n. not-started);
 }

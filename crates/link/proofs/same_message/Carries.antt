@@ -7,6 +7,7 @@ use mathlib.Core.List.{List, [], _∷_, _++_}
 use native.Mathlib.Omega.{arith}
 use native.Mathlib.Numerals.{add-one}
 use lib.ListN.{length, drop, length-append, length-drop}
+use lib.Dec.{ltb}
 use borrow.Author.Tests.{lt-ltb, le-ltb}
 use Rattle.wire.specs.Message.{messageLimit}
 use Rattle.wire.specs.Bytes.{Bytes}
@@ -32,7 +33,7 @@ use Rattle.exchange.specs.declared.Exchange.{Exchange}
 use Rattle.exchange.specs.declared.Outgoing.{Outgoing}
 use Rattle.exchange.specs.declared.Outgoing.the-variants.{Message}
 use Rattle.link.specs.Courier.{carried as carrying, courierBy}
-use Rattle.link.specs.Run.{nextIn, hasNext, untold, changedTo, acknowledged, carriedBy, codes, closed, course, blockIn}
+use Rattle.link.specs.Run.{nextIn, hasNext, untold, changedTo, puttingOut, acknowledged, carriedBy, codes, closed, course, blockIn}
 use Rattle.link.specs.History.{Track}
 use Rattle.link.specs.SameMessage.{End, endOf, Said, noting, noted, saidBy, hearsAll, drainsLate, Pair, pair, Pauses, carried, carries, total, ticksIn, BlockOf, InTime}
 use Rattle.link.specs.declared.Carried.{Carried}
@@ -43,6 +44,7 @@ use Rattle.link.specs.declared.Link.{Link}
 use Rattle.link.specs.declared.Outcome.the-variants.{Done}
 use Rattle.link.proofs.same_message.Calls.{said, leaving-said, course-said, unit, Sound, says, drains-as, quiet-said, heard-late, drained-late, draining-counts, eot-counts, ack-counts}
 use Rattle.link.proofs.same_message.Reaches.{Reaches, reaches-heard, reaches-drained}
+use Rattle.link.proofs.same_message.PutsOut.{later-out, outgoing-out, sent-out}
 use Rattle.link.proofs.same_message.Hears.{one-heard, overwritten, ack-of, enq-heard, block-heard}
 use Rattle.link.proofs.same_message.Blocks.{no-bytes, one-byte, line-bytes, block-bytes, block-length, ten-read, data-read, few, some, header-in-range, data-length, data-most, data-bytes, block-out}
 
@@ -64,14 +66,15 @@ module _ (o : List ℕ) (long : 257 ≤ length o) (s : Settings) (x : Exchange) 
   -- "EOT puts out the whole block."
   eot-heard : n ≤ s .limits .t2 .0
       → hearsAll o (λ i. n) (endOf (unit s (WaitEot 0 0) rs (passes (s .terms) x m) k) room) (EOT ∷ [])
-      ≡ said (endOf (unit s (Draining 0) rs then k) room) (blockIn (outgoingOf then) k room)
+      ≡ said (endOf (unit s (Draining 0) rs (puttingOut (hasNext (unit s Idle rs then k)) then) k) room) (blockIn (outgoingOf then) k room)
   unfolding eotByte
   eot-heard fits =
       let c = eot-counts (s .limits) n (g 0 .t2) fits in
       one-heard o (λ i. n) _ EOT _
       (heard-late s x k room o long g (λ i. WaitEot i 0) rs m n EOT c
       ∙ says s then k room o long (g (m + n)) (WaitEot n 0) rs EOT _ (c .ranged n (omega arith)) refl
-      ∙ leaving-said (blockIn (outgoingOf then) k room) (unit s (Draining 0) rs then k) Done (untold then note.Nothing) room o)
+      ∙ (let after : Exchange = puttingOut (hasNext (unit s Idle rs then k)) then in
+      leaving-said (blockIn (outgoingOf then) k room) (unit s (Draining 0) rs after k) Done (untold after note.Nothing) room o))
 
   -- "drained starts the wait for ACK"
   drained : drainsLate o n (endOf (unit s (Draining 0) rs (passes (s .terms) x m) k) room) ≡ said (endOf (unit s (WaitAck 0 0) rs then k) room) []
@@ -118,14 +121,14 @@ module _ (o : List ℕ) (long : 257 ≤ length o) (s : Settings) (x : Exchange) 
 
 module _ (o : List ℕ) (long : 257 ≤ length o) (t : Settings) (y : Exchange) (room rs : List ℕ) (g : (n : ℕ) → Sound t (passes (t .terms) y n) 1 room) where
   -- a block of header h and data d, m ticks on: it is acknowledged and judged, its ticks later
-  taken-up : (w : ℕ → ℕ) (m : ℕ) (h : Header) (d : List ℕ) → length rs ≡ 256 → InRange h → Bytes d → length d ≤ 244
+  taken-up : (w : ℕ → ℕ) (m : ℕ) (h : Header) (d : List ℕ) → isSending y ≡ false → length rs ≡ 256 → InRange h → Bytes d → length d ≤ 244
       → w 0 ≤ t .limits .t2 .0 → ((i : ℕ) → 1 ≤ i → i < 1 + (10 + length d) + 2 → w i ≤ t .limits .t1 .0)
       → hearsAll o w (endOf (unit t (WaitLength 0) rs (passes (t .terms) y m) 1) room) (blockOf h d)
       ≡ ack-of t (overwritten rs (headerBytes h ++ d)) 1 (judgeOf (t .terms) (passes (t .terms) y (m + total w (1 + (10 + length d) + 2))) (headerBytes h) d room)
-  taken-up w m h d fits i b short first quick =
+  taken-up w m h d idle fits i b short first quick =
       let bs : List ℕ = headerBytes h ++ d in
       let n = block-length h d in
-      block-heard o long t y 1 room g w m rs bs fits (omega arith) (omega arith) (block-bytes h d i b) first
+      block-heard o long t y 1 room g w m rs bs idle fits (omega arith) (omega arith) (block-bytes h d i b) first
       (λ j least less. quick j least (omega arith))
       ∙ (λ z.
       ack-of t (overwritten rs bs) 1
@@ -173,18 +176,31 @@ pub record Arrived (here there : Track) (h : Header) (d : List ℕ) (w : ℕ →
 
 -- a message d with header h is sent by x at one end; r receives it at the other
 module _ (o : List ℕ) (long : 257 ≤ length o) (h : Header) (d : List ℕ) (i : InRange h) (b : Bytes d) (short : length d ≤ messageLimit)
-    (s : Settings) (x : Exchange) (sent kept : List ℕ) (sound : (k : ℕ) → 1 ≤ k → k ≤ mostBlocks → (n : ℕ) → Sound s (passes (s .terms) x n) k sent)
+    (s : Settings) (x : Exchange) (sent kept : List ℕ)
+    (sound : (more : Bool) (k : ℕ) → 1 ≤ k → k ≤ mostBlocks → (n : ℕ) → Sound s (passes (s .terms) (puttingOut more x) n) k sent)
     (going : (n : ℕ) → outgoingOf (passes (s .terms) x n) ≡ Message h (length d)) (starts : front sent Send (length d) ≡ d)
     (t : Settings) (r : Receiver) (rs : List ℕ) (fits : length rs ≡ 256) (w : ℕ → Pauses)
     (sounds : (k : ℕ) → k < blockCount (length d) → (n : ℕ)
     → Sound t (passes (t .terms) (received (t .terms) (ticksIn d w) r h d k .exchange) n) 1 (received (t .terms) (ticksIn d w) r h d k .room))
-    (time : InTime s t d w) where
+    (idle : (k : ℕ) → isSending (received (t .terms) (ticksIn d w) r h d k .exchange) ≡ false) (time : InTime s t d w) where
   -- what the receiver has of blocks 1 to k
   abbrev got : ℕ → Receiver
   got k = received (t .terms) (ticksIn d w) r h d k
 
-  sends : (n : ℕ) → isSending (passes (s .terms) x n) ≡ true
-  sends n = let y : Exchange = passes (s .terms) x n in sends-one (y .sending) y h (length d) (going n)
+  -- whether there is a block behind block k + 1, and the sender's transactions once that is put out
+  abbrev more : ℕ → Bool
+  more k = ltb (suc k) (blockCount (length d))
+
+  abbrev out : ℕ → Exchange
+  out k = puttingOut (more k) x
+
+  -- the same message goes on
+  goes-on : (k n : ℕ) → outgoingOf (passes (s .terms) (out k) n) ≡ Message h (length d)
+  goes-on k n =
+      ap outgoingOf (later-out (s .terms) x (more k) n) ∙ outgoing-out (s .terms) (passes (s .terms) x n) (more k) ∙ going n
+
+  sends : (k n : ℕ) → isSending (passes (s .terms) (out k) n) ≡ true
+  sends k n = let y : Exchange = passes (s .terms) (out k) n in sends-one (y .sending) y h (length d) (goes-on k n)
 
   -- the sender with block k + 1 on its way
   sender : ℕ → End
@@ -219,10 +235,10 @@ module _ (o : List ℕ) (long : 257 ≤ length o) (h : Header) (d : List ℕ) (i
   asked k = endOf (unit t (WaitLength 0) (array k) (passes (t .terms) (got k .exchange) (w (suc k) .enq)) 1) (got k .room)
 
   abbrev draining : ℕ → End
-  draining k = endOf (unit s (Draining 0) kept (passes (s .terms) x (spent w k + w (suc k) .eot)) (suc k)) sent
+  draining k = endOf (unit s (Draining 0) kept (passes (s .terms) (out k) (spent w k + w (suc k) .eot)) (suc k)) sent
 
   abbrev waiting : ℕ → End
-  waiting k = endOf (unit s (WaitAck 0 0) kept (passes (s .terms) x (spent w k + w (suc k) .eot + w (suc k) .draining)) (suc k)) sent
+  waiting k = endOf (unit s (WaitAck 0 0) kept (passes (s .terms) (out k) (spent w k + w (suc k) .eot + w (suc k) .draining)) (suc k)) sent
 
   -- what the receiver answers to it
   abbrev taken : ℕ → Said
@@ -238,8 +254,16 @@ module _ (o : List ℕ) (long : 257 ≤ length o) (h : Header) (d : List ℕ) (i
     is : BlockOf d (suc k)
     is = record { least = omega arith; most = less }
 
+    out-sound : (b : Bool) (n : ℕ) → Sound s (passes (s .terms) (puttingOut b x) n) (suc k) sent
+    out-sound b = let at-most = few h d i short in sound b (suc k) (omega arith) (omega arith)
+
     sender-sound : (n : ℕ) → Sound s (passes (s .terms) x n) (suc k) sent
-    sender-sound = let at-most = few h d i short in sound (suc k) (omega arith) (omega arith)
+    unfolding puttingOut
+    sender-sound = out-sound true
+
+    -- whether there is a block behind it, as the sender has it
+    follows : (y : Exchange) → outgoingOf y ≡ Message h (length d) → hasNext (unit s Idle kept y (suc k)) ≡ more k
+    follows y e = ap (λ (z : Outgoing). nextIn z (suc k)) e
 
     asked-so : hearsAll o (λ j. w (suc k) .enq) (receiver k) (ENQ ∷ []) ≡ said (asked k) (EOT ∷ [])
     unfolding receiver
@@ -250,9 +274,12 @@ module _ (o : List ℕ) (long : 257 ≤ length o) (h : Header) (d : List ℕ) (i
     block-so =
         let n : ℕ = suc k in
         let m : ℕ = spent w k + w n .eot in
+        let y : Exchange = passes (s .terms) x m in
         eot-heard o long s x n sent kept sender-sound (spent w k) (w n .eot) (time .eot n is)
-        ∙ ap (said (draining k))
-        (ap (λ (z : Outgoing). blockIn z n sent) (going m) ∙ block-out h d i short n (omega arith) less sent (sender-sound 0 .whole) starts)
+        ∙ (λ z. said (endOf (unit s (Draining 0) kept (puttingOut (follows y (going m) z) y) n) sent) (blockIn (going m z) n sent))
+        ∙ (λ z.
+        said (endOf (unit s (Draining 0) kept (sym (later-out (s .terms) x (more k) m) z) n) sent)
+        (block-out h d i short n (omega arith) less sent (sender-sound 0 .whole) starts z))
 
     taken-so : hearsAll o (w (suc k) .byte) (asked k) (bytes k) ≡ taken k
     unfolding array
@@ -261,7 +288,7 @@ module _ (o : List ℕ) (long : 257 ≤ length o) (h : Header) (d : List ℕ) (i
         let p : Pauses = w n in
         let y : Receiver = got k in
         let size = data-length h d i short n (omega arith) less in
-        taken-up o long t (y .exchange) (y .room) (array k) (sounds k less) (p .byte) (p .enq) (headerAt h (length d) n) (dataIn h d n) (array-fits k (omega arith))
+        taken-up o long t (y .exchange) (y .room) (array k) (sounds k less) (p .byte) (p .enq) (headerAt h (length d) n) (dataIn h d n) (idle k) (array-fits k (omega arith))
         (header-in-range h d i short n (omega arith) less) (data-bytes h d i short n (omega arith) less b) (data-most h d i short n (omega arith) less)
         (time .size n is) (λ j least under. time .body n is j least (omega (arith, size)))
         ∙ ap
@@ -271,26 +298,28 @@ module _ (o : List ℕ) (long : 257 ≤ length o) (h : Header) (d : List ℕ) (i
         size
 
     gone-so : drainsLate o (w (suc k) .draining) (draining k) ≡ said (waiting k) []
-    gone-so = drained o long s x (suc k) sent kept sender-sound (spent w k + w (suc k) .eot) (w (suc k) .draining)
+    gone-so = drained o long s (out k) (suc k) sent kept (out-sound (more k)) (spent w k + w (suc k) .eot) (w (suc k) .draining)
 
     -- each but the last has the next behind it
     next-so : suc k < blockCount (length d) → ends k ≡ said (sender (suc k)) (ENQ ∷ [])
-    unfolding ends sender spent
-    next-so more =
+    unfolding ends sender spent puttingOut
+    next-so behind =
         let m : ℕ = spent w (suc k) in
-        let next : hasNext (unit s Idle kept (passes (s .terms) x m) (suc k)) ≡ true =
-        ap (λ (z : Outgoing). nextIn z (suc k)) (going m) ∙ lt-ltb (suc k) (blockCount (length d)) more in
-        next-asked o long s x (suc k) sent kept sender-sound (spent w k + w (suc k) .eot + w (suc k) .draining) (w (suc k) .ack) (time .ack (suc k) is) (sends m) next
-        ∙ ap (λ (e : ℕ). said (endOf (unit s (WaitEot 0 0) kept (passes (s .terms) x m) e) sent) (ENQ ∷ [])) (add-one (suc k))
+        let on : more k ≡ true = lt-ltb (suc k) (blockCount (length d)) behind in
+        next-asked o long s (out k) (suc k) sent kept (out-sound (more k)) (spent w k + w (suc k) .eot + w (suc k) .draining) (w (suc k) .ack) (time .ack (suc k) is)
+        (sends k m) (follows (passes (s .terms) (out k) m) (goes-on k m) ∙ on)
+        ∙ (λ z. said (endOf (unit s (WaitEot 0 0) kept (passes (s .terms) (puttingOut (on z) x) m) (add-one (suc k) z)) sent) (ENQ ∷ []))
 
     -- behind the last there is none
     last-so : suc k ≡ blockCount (length d) → ends k ≡ said (idle-end s kept (sentOf (passes (s .terms) x (spent w (suc k))) .exchange) sent) []
     unfolding ends spent
     last-so e =
         let m : ℕ = spent w (suc k) in
-        let last : hasNext (unit s Idle kept (passes (s .terms) x m) (suc k)) ≡ false =
-        ap (λ (z : Outgoing). nextIn z (suc k)) (going m) ∙ le-ltb (suc k) (blockCount (length d)) (omega arith) in
-        all-sent o long s x (suc k) sent kept sender-sound (spent w k + w (suc k) .eot + w (suc k) .draining) (w (suc k) .ack) (time .ack (suc k) is) (sends m) last
+        let last : more k ≡ false = le-ltb (suc k) (blockCount (length d)) (omega arith) in
+        all-sent o long s (out k) (suc k) sent kept (out-sound (more k)) (spent w k + w (suc k) .eot + w (suc k) .draining) (w (suc k) .ack) (time .ack (suc k) is)
+        (sends k m) (follows (passes (s .terms) (out k) m) (goes-on k m) ∙ last)
+        ∙ ap (λ (y : Exchange). said (idle-end s kept y sent) [])
+        (ap (λ (y : Exchange). sentOf y .exchange) (later-out (s .terms) x (more k) m) ∙ sent-out (s .terms) (passes (s .terms) x m) (more k))
 
   -- the notes so far
   notes : ℕ → List ℕ

@@ -60,6 +60,7 @@ use Rattle.exchange.specs.declared.ReplyStage.the-variants as reply
 use Rattle.exchange.specs.declared.Asked.the-variants as asked
 use Rattle.exchange.specs.declared.Primary.{Primary}
 use Rattle.exchange.specs.declared.Outgoing.the-variants.{Message}
+use Rattle.link.specs.Run.{puttingOut}
 use Rattle.link.specs.Call.{openCall}
 use Rattle.link.specs.Reading.{ownOf, messageBy}
 use Rattle.link.specs.History.{Track, exchangeTrack, termsIn}
@@ -73,7 +74,7 @@ use Rattle.link.proofs.numbers.Kept.{numbers-kept}
 use Rattle.link.proofs.same_message.Calls.{said, unit, Sound, waits-said, idle-counts}
 use Rattle.link.proofs.same_message.Reaches.{Reaches, reaches-itself, reaches-asked, meet-again}
 use Rattle.link.proofs.same_message.Carries.{idle-end, spent, Arrived, all-carried}
-use Rattle.link.proofs.same_message.Stands.{Stands, stands-next, stands-later, stands-fours, stands-received, received-size, settings-fit, settings-are, stands, array-fits, sound, not-sending, idles}
+use Rattle.link.proofs.same_message.Stands.{Stands, stands-next, stands-later, stands-out, stands-fours, stands-received, received-rests, received-size, settings-fit, settings-are, stands, array-fits, sound, not-sending, idles}
 use Rattle.link.proofs.same_message.Asks.{taken-inside, asked-said, send-starts}
 
 -- ---- a primary that is accepted
@@ -289,7 +290,7 @@ module _ (a b : Track) (l : Linked a b) (room far o : List ℕ) (m : Lent room f
         subst (Arrived a b h d w s y sent (a .link .received) t r)
         (sym (λ i. carries o w n (puts (asks i) (endOf (idles b (l .other) (l .far-line) i) far))))
         (all-carried o (m .out) h d range (typed .bytes) (fits .short) s y sent (a .link .received)
-        (sound a (l .one) y sender-stands sent sent-whole)
+        (λ more. sound a (l .one) (puttingOut more y) (stands-out (s .terms) more y sender-stands) sent sent-whole)
         (goes-out (s .terms) y p (length d) h range (opened .sending) (opened .place))
         (ap (λ (z : List ℕ). front z message.Send (length d)) (opened .kept) ∙ send-starts room d (m .here) (fits .short))
         t r (b .link .received) (array-fits b (l .other)) w
@@ -297,7 +298,7 @@ module _ (a b : Track) (l : Linked a b) (room far o : List ℕ) (m : Lent room f
         sound b (l .other) (received (t .terms) (ticksIn d w) r h d k .exchange)
         (stands-received (t .terms) (ticksIn d w) r h d (stands b (l .other)) k)
         (received (t .terms) (ticksIn d w) r h d k .room) (received-size (t .terms) (ticksIn d w) r h d k ∙ m .there) 1 (omega arith) (omega arith))
-        time a b
+        (received-rests (t .terms) (ticksIn d w) r h d (not-sending b (l .other) (l .far-line))) time a b
         (subst (λ (z : Said). Reaches a (z .end)) asks (reaches-asked a (endOf (a .link) room) (reaches-itself a room) o (primary q d)))
         (subst (λ (u : Link). Reaches b (endOf u far)) (idles b (l .other) (l .far-line)) (reaches-itself b far)))
 
@@ -338,8 +339,8 @@ module _ (a b : Track) (l : Linked a b) (room far o : List ℕ) (m : Lent room f
         ∙ awaits-reply (s .terms) y p (length d) h range (opened .sending) (opened .place) (spent w (blockCount (length d))) own-four within (opened .as-asked .w ∙ wants)) in (
           record {
             shown = ap (λ (u : Link). ownOf u p) (again .one) ∙ standing ∙ ap (λ (v : Bool). own.Place h (cond v Open (Given Sent)) noReply) wants;
-            acknowledged = seen .asked .acked;
-            none = seen .kept;
+            acknowledged = seen .request;
+            none = seen .unanswered .kept;
             ranged = range;
           },
           seen .since,

@@ -22,16 +22,18 @@ use Rattle.line.specs.declared.phase.Phase.the-variants.{Idle, WaitLength, Body
 use Rattle.line.specs.declared.step.Out.the-variants.{Nothing, Code}
 use Rattle.line.specs.declared.step.Told.the-variants.{Up}
 use Rattle.exchange.specs.Note.{noteNumber}
+use Rattle.exchange.specs.Request.{sendingBy, isSending}
 use Rattle.exchange.specs.Judge.{Judging}
 use Rattle.exchange.specs.Assembly.{passes}
 use Rattle.exchange.specs.declared.Exchange.{Exchange}
-use Rattle.exchange.proofs.BeingSent.{sending-ends}
+use Rattle.exchange.proofs.Passing.{sending-stays}
 use Rattle.link.specs.Courier.{carried}
 use Rattle.link.specs.Run.{judging, judgedAs}
 use Rattle.link.specs.SameMessage.{End, endOf, Said, noting, behind, hears, hearsLate, hearsAll, total}
 use Rattle.link.specs.declared.Outcome.the-variants.{Done}
 use Rattle.link.specs.declared.Settings.{Settings}
 use Rattle.link.specs.declared.Link.{Link}
+use Rattle.link.proofs.inside.Courier.{judged-still}
 use Rattle.link.proofs.same_message.Calls.{said, course-said, courier-rests, unit, Sound, says, quiet-said, Counts, at, heard-late, idle-counts, length-counts, body-counts}
 
 -- ---- bytes, one after the other
@@ -145,12 +147,12 @@ module _ (o : List ℕ) (long : 257 ≤ length o) (s : Settings) (x : Exchange) 
         byte-taken (λ i. Body i (coming n got sum 0)) (Body 0 (coming n (got + 1) (sumWith sum b) 0)) w m b rs (set rs got b) bs
         (body-goes got sum 0 (w 0) (omega arith) small fits) (simp (lt-ltb got n (omega arith))) refl
 
-    -- the two bytes of the sum: equal sums
-    sum-heard : (w : ℕ → ℕ) (m sum : ℕ) (rs : List ℕ) → sum ≤ 64770 → w 0 ≤ s .limits .t1 .0 → w 1 ≤ s .limits .t1 .0
+    -- the two bytes of the sum: equal sums; where no message is being sent, none is withdrawn
+    sum-heard : (w : ℕ → ℕ) (m sum : ℕ) (rs : List ℕ) → isSending x ≡ false → sum ≤ 64770 → w 0 ≤ s .limits .t1 .0 → w 1 ≤ s .limits .t1 .0
         → hearsAll o w (here (Body 0 (coming n n sum 0)) rs m) (halvesOf sum)
         ≡ ack-of s rs k (judging (unit s Idle rs (passes (s .terms) x (m + w 0 + w 1)) k) n room)
     unfolding bodyByte lowByte settleIdle
-    sum-heard w m sum rs small first second =
+    sum-heard w m sum rs rests small first second =
         let over : pairOf (sum / 256) (sum % 256) ≡ sum = omega arith in
         let y : Exchange = passes (s .terms) x (m + w 0 + w 1) in
         let u : Link = unit s Idle rs y k in
@@ -166,7 +168,7 @@ module _ (o : List ℕ) (long : 257 ≤ length o) (s : Settings) (x : Exchange) 
         (simp (le-ltb (n + 1) n (omega arith), ne-eqb (n + 1) n (λ e. omega arith), eq-eqb (pairOf (sum / 256) (sum % 256)) sum over))
         ∙ course-said u (Code ACK) (Up n) (judgedAs (j .answer)) Done (j .room) o (carried (lineAt false Idle) k)
         (courier-rests (y .sending) (j .answer .exchange .sending) (Up n) (lineAt false Idle) k (j .room)
-        (sending-ends (s .terms) y .judged (firstTen rs) (part 10 n rs) room) refl))
+        (judged-still (s .terms) y (firstTen rs) (part 10 n rs) room (ap sendingBy (sending-stays (s .terms) x (m + w 0 + w 1)) ∙ rests)) refl))
 
     -- all n bytes, p being those that came
     bytes-heard : (w : ℕ → ℕ) (m : ℕ) (p xs rest zs : List ℕ) → length p + length xs ≡ n → length xs ≤ length rest → plainSum p + plainSum xs ≤ 64770
@@ -196,12 +198,12 @@ module _ (o : List ℕ) (long : 257 ≤ length o) (s : Settings) (x : Exchange) 
         hearsAll o (from later (length xs)) (here (Body 0 (coming n n (checksumOf (back i)) 0)) (back i ++ drop (length xs) ys) (past i)) zs)
 
   -- a whole block: it is acknowledged, and judged as it came, its ticks later
-  pub block-heard : (w : ℕ → ℕ) (m : ℕ) (rs bs : List ℕ) → length rs ≡ 256 → 10 ≤ length bs → length bs ≤ 254 → Bytes bs
+  pub block-heard : (w : ℕ → ℕ) (m : ℕ) (rs bs : List ℕ) → isSending x ≡ false → length rs ≡ 256 → 10 ≤ length bs → length bs ≤ 254 → Bytes bs
       → w 0 ≤ s .limits .t2 .0 → ((i : ℕ) → 1 ≤ i → i < 1 + length bs + 2 → w i ≤ s .limits .t1 .0)
       → hearsAll o w (endOf (unit s (WaitLength 0) rs (passes (s .terms) x m) k) room) (framed bs)
       ≡ ack-of s (overwritten rs bs) k (judging (unit s Idle (overwritten rs bs) (passes (s .terms) x (m + total w (1 + length bs + 2))) k) (length bs) room)
   unfolding framed total
-  block-heard w m rs bs fits ten most all first quick =
+  block-heard w m rs bs rests fits ten most all first quick =
       let n : ℕ = length bs in
       let small : plainSum bs ≤ 64770 = omega (arith, sum-most bs all) in
       let later : ℕ → ℕ = λ i. w (suc i) in
@@ -217,6 +219,6 @@ module _ (o : List ℕ) (long : 257 ≤ length o) (s : Settings) (x : Exchange) 
       ∙ (λ i. hearsAll o later (here (Body 0 (coming n 0 (sym (sum-by-byte .0) i) 0)) rs (m + w 0)) (bs ++ halvesOf sum))
       ∙ bytes-heard n ten most later (m + w 0) [] bs rs (halvesOf sum) (omega arith) (omega arith) (omega (arith, none-yet))
       (λ i less. quick (suc i) (omega arith) (omega arith))
-      ∙ sum-heard n ten most (from later n) (m + w 0 + total later n) sum (overwritten rs bs) (in-sum bs small)
+      ∙ sum-heard n ten most (from later n) (m + w 0 + total later n) sum (overwritten rs bs) rests (in-sum bs small)
       (omega (arith, high, high-fits)) (omega (arith, low, low-fits))
       ∙ ap (λ (t : ℕ). ack-of s (overwritten rs bs) k (judging (unit s Idle (overwritten rs bs) (passes (s .terms) x t) k) n room)) past

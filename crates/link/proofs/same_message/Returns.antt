@@ -4,7 +4,7 @@ use Prim.Native.Nat.{ℕ, _+_, _%_, _≤_, _<_}
 use mathlib.Core.Path.{_≡_, refl, sym, ap, subst, _∙_}
 use mathlib.Core.Bool.{Bool, true, false, not, Bool·not-not, false≢true}
 use mathlib.Core.List.{List, [], _∷_}
-use mathlib.Core.Logic.{_≢_}
+use mathlib.Core.Logic.{inl}
 use native.Mathlib.Omega.{arith}
 use lib.Dec.{ltb}
 use lib.ListN.{length}
@@ -35,7 +35,7 @@ use Rattle.place.specs.declared.Reply.{Reply}
 use Rattle.place.specs.declared.Verdict.{Verdict}
 use Rattle.place.specs.declared.Standing.{Standing}
 use Rattle.place.specs.declared.Standing.the-variants.{Free, Open, Given}
-use Rattle.place.proofs.OwnInvariant.{At, is-acked, HasVerdict, no-block}
+use Rattle.place.proofs.OwnInvariant.{At, is-received, HasVerdict, no-block}
 use Rattle.place.proofs.OwnAlways.{always}
 use Rattle.place.proofs.Verdicts.{request-shown}
 use Rattle.exchange.specs.Exchange.{ownPlace, incomingPlace}
@@ -45,7 +45,7 @@ use Rattle.exchange.specs.Rules.{Fours, Duplicate}
 use Rattle.exchange.specs.History.{request}
 use Rattle.exchange.specs.Refusals.{RepliesTo, Replied}
 use Rattle.exchange.specs.Numbers.{inUse}
-use Rattle.exchange.specs.Assembly.{headerIn, Receiver, receiverOf, passes, received, Awaits, ReplyAssembled}
+use Rattle.exchange.specs.Assembly.{headerIn, Receiver, receiverOf, passes, received, AwaitedFor, acked, Awaits, ReplyAssembled}
 use Rattle.exchange.proofs.BeingSent.{sending-ends}
 use Rattle.exchange.proofs.Ranges.{exchange-fits-exactly}
 use Rattle.exchange.proofs.Odds.{Came, CameAt, came}
@@ -59,6 +59,7 @@ use Rattle.exchange.specs.declared.IncomingReading.{IncomingReading}
 use Rattle.exchange.specs.declared.IncomingReading.the-variants as incoming
 use Rattle.exchange.specs.declared.ReplyStage.{ReplyStage}
 use Rattle.exchange.specs.declared.Asked.the-variants as asked
+use Rattle.link.specs.Run.{puttingOut}
 use Rattle.link.specs.Call.{replyCall}
 use Rattle.link.specs.Reading.{ownOf, replyBy, incomingOf, messageBy}
 use Rattle.link.specs.History.{Track, exchangeTrack}
@@ -73,7 +74,7 @@ use Rattle.link.proofs.verdicts.Own.{standing-read, request-read, none-
 use Rattle.link.proofs.same_message.Calls.{said, unit, Sound}
 use Rattle.link.proofs.same_message.Reaches.{Reaches, reaches-itself, reaches-asked, meet-again}
 use Rattle.link.proofs.same_message.Carries.{spent, Arrived, all-carried}
-use Rattle.link.proofs.same_message.Stands.{Stands, stands-next, stands-later, stands-fours, stands-received, received-size, stands, array-fits, sound, not-sending, idles}
+use Rattle.link.proofs.same_message.Stands.{Stands, stands-next, stands-later, stands-out, stands-fours, stands-received, received-rests, received-size, stands, array-fits, sound, not-sending, idles}
 use Rattle.link.proofs.same_message.Asks.{taken-inside, asked-said, send-starts}
 use Rattle.link.proofs.same_message.Delivers.{own-read, incoming-read, later-is}
 use Rattle.link.proofs.numbers.Distinct.{alone}
@@ -84,8 +85,9 @@ use Rattle.link.proofs.same_message.Replies.{even, earned, earns, Reply
 -- T3 stands there at the ticks since the ACK
 awaited-at : (c : Terms) (h : List ℕ) (z : OwnStage) (s : own.Seen) → At c z h s → standingAt z ≡ Open → s .request ≡ own.acknowledged → s .kept ≡ []
     → z ≡ stage.Awaiting (s .since)
-awaited-at c h stage.Free s w open' ack none = absurd (is-acked _ _ w ack)
-awaited-at c h stage.Sending s w open' ack none = absurd (is-acked _ _ (w .request) ack)
+awaited-at c h stage.Free s w open' ack none = absurd (is-received _ _ w (inl ack))
+awaited-at c h stage.Sending s w open' ack none = absurd (is-received _ _ (w .request) (inl ack))
+awaited-at c h stage.PutOut s w open' ack none = absurd (is-received _ _ (w .request) (inl ack))
 awaited-at c h (stage.Awaiting timer) s w open' ack none = ap stage.Awaiting (sym (w .since))
 awaited-at c h (stage.Replying a) s w open' ack none = absurd (no-block (s .kept) none (w .arrives .begun .some))
 awaited-at c h (stage.Done v r) s w open' ack none = absurd (subst HasVerdict open' tt)
@@ -219,16 +221,18 @@ module _ (a b : Track) (l : Linked a b) (room far o : List ℕ) (m : Lent room f
   seen-is : a .own q .header ≡ h
   seen-is = sym (request-read a (l .one) q q-within (λ w. not-free (sym (standing-read a q) ∙ w))) ∙ ap requestIn (awaited .shown)
 
-  awaits : (Duplicate (t .terms) z (headerIn e r 1) → ⊥) → Awaits (t .terms) z q h (a .own q .since) e r
-  awaits new =
+  awaits : (n : ℕ) → (Duplicate (t .terms) z (headerIn e r 1) → ⊥) → a .own q .since + n ≤ t .terms .t3 .0 → Awaits (t .terms) z q h n e r
+  awaits n new early =
       let inside = places-inside a (l .one) .own q q-within in
       record {
         within = q-within;
         primary = request-shown (t .terms) _ inside not-free ∙ seen-is;
         stage =
-            awaited-at (t .terms) (ownPlace z q .header) (ownPlace z q .stage) (a .own q) (always (t .terms) _ inside) is-open (awaited .acknowledged) (awaited .none);
+            subst (AwaitedFor (t .terms) n)
+            (sym (awaited-at (t .terms) (ownPlace z q .header) (ownPlace z q .stage) (a .own q) (always (t .terms) _ inside) is-open (awaited .acknowledged) (awaited .none)))
+            (acked (a .own q .since) early);
         alone = λ j j-within ne runs is.
-            alone a (l .one) (l .last) q j q-within j-within ne (λ w. absurd (is-acked _ _ w (awaited .acknowledged))) runs
+            alone a (l .one) (l .last) q j q-within j-within ne (λ w. absurd (is-received _ _ w (inl (awaited .acknowledged)))) runs
             (is ∙ replies-to .system ∙ same .system ∙ ap (λ (w : Header). w .system) (sym seen-is));
         new = new;
       }
@@ -269,11 +273,11 @@ module _ (a b : Track) (l : Linked a b) (room far o : List ℕ) (m : Lent room f
     unfolding back
     assembled =
         let c = replies-to in
-        assembly-of-reply (t .terms) (ticksIn r w) z room q (a .own q .since) h e r (won .0)
+        assembly-of-reply (t .terms) (ticksIn r w) z room q h e r (won .0)
         (stands-fours (t .terms) z (stands a (l .one))) (m .here) range
         (ap (λ (i : ℕ). i % 2) (c .function) ∙ even (h .function) f (won .0) (ap (λ (i : ℕ). i % 2) (sym (same .function)) ∙ message-came .odd) (won .1))
         routed (record { device = c .device ∙ same .device; system = c .system ∙ same .system })
-        (earned h e f (won .0) (c .stream ∙ same .stream) (c .function) (won .1)) (fits .short) (awaits new) early (time .blocks)
+        (earned h e f (won .0) (c .stream ∙ same .stream) (c .function) (won .1)) (fits .short) (awaits (ticksIn r w 1) new early) (time .blocks)
 
     -- it is carried
     arrives : Arrived b a e r w s y sent (b .link .received) t (receiverOf z room) (homeward o w (endOf (b .link) far) (endOf (a .link) room) p f r)
@@ -282,14 +286,14 @@ module _ (a b : Track) (l : Linked a b) (room far o : List ℕ) (m : Lent room f
         subst (Arrived b a e r w s y sent (b .link .received) t c)
         (sym (λ i. carries o w (blockCount (length r)) (puts (answers-so i) (endOf (idles a (l .one) (l .line) i) room))))
         (all-carried o (m .out) e r range (typed .bytes) (fits .short) s y sent (b .link .received)
-        (sound b (l .other) y sender-stands sent sent-whole)
+        (λ more. sound b (l .other) (puttingOut more y) (stands-out (s .terms) more y sender-stands) sent sent-whole)
         (goes-out (s .terms) x p f r far k taken)
         (ap (λ (i : List ℕ). front i message.Send (length r)) (answer .kept) ∙ send-starts far r (m .there) (fits .short))
         t c (a .link .received) (array-fits a (l .one)) w
         (λ j less.
         sound a (l .one) (received (t .terms) (ticksIn r w) c e r j .exchange) (stands-received (t .terms) (ticksIn r w) c e r (stands a (l .one)) j)
         (received (t .terms) (ticksIn r w) c e r j .room) (received-size (t .terms) (ticksIn r w) c e r j ∙ m .here) 1 (omega arith) (omega arith))
-        time b a
+        (received-rests (t .terms) (ticksIn r w) c e r (not-sending a (l .one) (l .line))) time b a
         (subst (λ (i : Said). Reaches b (i .end)) answers-so (reaches-asked b (endOf (b .link) far) (reaches-itself b far) o (reply p f r)))
         (subst (λ (u : Link). Reaches a (endOf u room)) (idles a (l .one) (l .line)) (reaches-itself a room)))
 
@@ -318,7 +322,7 @@ module _ (a b : Track) (l : Linked a b) (room far o : List ℕ) (m : Lent room f
             line = refl;
             far-line = refl;
             sending = ap sendingBy (sending-ends (s .terms) (passes (s .terms) y (spent w j)) .acknowledged);
-            far-sending = ap sendingBy (assembled .sending) ∙ not-sending a (l .one) (l .line);
+            far-sending = received-rests (t .terms) (ticksIn r w) (receiverOf z room) e r (not-sending a (l .one) (l .line)) j;
           };
           again =
               meet-again a b l o _ _ (subst (λ (i : Pair). Reaches a (i .receiver)) (arrives .so) (arrives .receiver-reaches))

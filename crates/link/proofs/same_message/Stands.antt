@@ -2,7 +2,7 @@
 -- transactions. So its numbers are in their ranges. Assumes nothing.
 use Prim.Native.Nat.{ℕ, zero, suc, _≤_}
 use mathlib.Core.Path.{_≡_, refl, sym, ap, subst, _∙_}
-use mathlib.Core.Bool.{true, false}
+use mathlib.Core.Bool.{Bool, true, false}
 use mathlib.Core.List.{List, [], _∷_}
 use native.Mathlib.Omega.{arith}
 use lib.ListN.{length}
@@ -23,22 +23,26 @@ use Rattle.place.specs.declared.Fate.{Fate}
 use Rattle.place.specs.declared.Fate.the-variants as fate
 use Rattle.exchange.specs.Exchange.{ownPlace, incomingPlace, savedNow}
 use Rattle.exchange.specs.Range.{exchangeInRange}
-use Rattle.exchange.specs.Request.{isSending}
+use Rattle.exchange.specs.Request.{sendingBy, isSending}
 use Rattle.exchange.specs.Judge.{keepBy, thrown, replyBlock, messageBlock, beginsAt, judgeOf}
 use Rattle.exchange.specs.Rules.{Fours}
-use Rattle.exchange.specs.History.{Call, block, tick, called, Track, track}
+use Rattle.exchange.specs.History.{Call, block, tick, put-out, called, Track, track}
 use Rattle.exchange.specs.Theorems.{Reached}
 use Rattle.exchange.specs.Assembly.{headerIn, dataIn, Receiver, passes, received}
 use Rattle.exchange.proofs.Cases.{by-judge}
 use Rattle.exchange.proofs.AnyRoom.{track-alike}
+use Rattle.exchange.proofs.Passing.{sending-stays}
 use Rattle.exchange.proofs.Runs.{reached-more, four-places, sound-reached}
 use Rattle.exchange.proofs.Inside.{exchange-reached-in-range}
 use Rattle.exchange.specs.declared.Exchange.{Exchange}
 use Rattle.link.specs.Setup.{settingsInRange}
+use Rattle.link.specs.Run.{puttingOut}
 use Rattle.link.specs.Refusals.{SetupFits, inTicks}
 use Rattle.link.specs.History as link
 use Rattle.link.specs.Inside as inside
 use Rattle.link.specs.declared.Settings.{Settings}
+use Rattle.link.proofs.Cases.{by-put-out}
+use Rattle.link.proofs.inside.Courier.{judged-still}
 use Rattle.link.proofs.refusals.Start.{StartedAs, started-as, settings-sound}
 use Rattle.link.proofs.inside.Reached.{settings-stay, line-inside}
 use Rattle.link.proofs.inside.Places.{exchange-inside}
@@ -71,6 +75,10 @@ module _ (c : Terms) where
   stands-later x w zero = w
   stands-later x w (suc n) = stands-next (passes c x n) [] tick (stands-later x w n)
 
+  -- the last block of the message being sent is put out, or another one
+  pub stands-out : (more : Bool) (x : Exchange) → Stands c x → Stands c (puttingOut more x)
+  stands-out more x w = by-put-out (λ z y. Stands c y) more x (λ e. w) (λ e. stands-next x [] put-out w)
+
   pub stands-fours : (x : Exchange) → Stands c x → Fours x
   stands-fours x w = subst Fours (w .same) (four-places (w .track .exchange) (sound-reached c (w .track) (w .reached)))
 
@@ -102,6 +110,16 @@ module _ (c : Terms) (pauses : ℕ → ℕ) (r : Receiver) (h : Header) (d : Lis
       let y : Receiver = received c pauses r h d k in
       stands-next c (passes c (y .exchange) (pauses (suc k))) (y .room) (block (headerIn h d (suc k)) (dataIn h d (suc k)))
       (stands-later c (y .exchange) (stands-received w k) (pauses (suc k)))
+
+  -- where no message is being sent, none is withdrawn
+  pub received-rests : isSending (r .exchange) ≡ false → (k : ℕ) → isSending (received c pauses r h d k .exchange) ≡ false
+  unfolding received
+  received-rests e zero = e
+  received-rests e (suc k) =
+      let y : Receiver = received c pauses r h d k in
+      let x : Exchange = passes c (y .exchange) (pauses (suc k)) in
+      let still : isSending x ≡ false = ap sendingBy (sending-stays c (y .exchange) (pauses (suc k))) ∙ received-rests e k in
+      ap sendingBy (judged-still c x (headerIn h d (suc k)) (dataIn h d (suc k)) (y .room) still) ∙ still
 
   pub received-size : (k : ℕ) → length (received c pauses r h d k .room) ≡ length (r .room)
   unfolding received

@@ -39,6 +39,7 @@ module _ (n : ℕ) (s : SavedSeen) where
   stays-few _ device.none i = refl
   stays-few _ (device.one (exchange.block h d)) i = stays-one h (i h d here)
   stays-few _ (device.one exchange.tick) i = refl
+  stays-few _ (device.one exchange.put-out) i = refl
   stays-few _ (device.one exchange.acknowledged) i = refl
   stays-few _ (device.one exchange.failed) i = refl
   stays-few _ (device.one (exchange.request r)) i = refl
@@ -70,6 +71,7 @@ module _ (t : Track) (s : SavedSeen) (w : IsSaved (t .link .exchange .saved) s) 
   few-saved _ (device.one (exchange.block h d)) n =
       subst (λ k. IsSaved (after (exchange.block h d ∷ []) .saved) (savedBy k s h)) (sym (n h d here)) (saved-on c x (lent t m) s (exchange.block h d) w)
   few-saved _ (device.one exchange.tick) n = saved-on c x (lent t m) s exchange.tick w
+  few-saved _ (device.one exchange.put-out) n = saved-on c x (lent t m) s exchange.put-out w
   few-saved _ (device.one exchange.acknowledged) n = saved-on c x (lent t m) s exchange.acknowledged w
   few-saved _ (device.one exchange.failed) n = saved-on c x (lent t m) s exchange.failed w
   few-saved _ (device.one (exchange.request r)) n = saved-on c x (lent t m) s (exchange.request r) w

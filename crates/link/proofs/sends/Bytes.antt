@@ -1,9 +1,10 @@
--- What leaves at an EOT, and at an ACK; when a message has been sent (`specs/Sends.antt`). Assumes nothing.
+-- What leaves at an EOT, and at an ACK; when the last block of a message is out, and when it has been sent (`specs/Sends.antt`). Assumes
+-- nothing.
 use Prim.Native.Nat.{ℕ, _+_, _-_, _*_, _≤_, _<_}
 use mathlib.Core.Path.{_≡_, refl, sym, ap, _∙_, subst}
 use mathlib.Core.Bool.{Bool, true, false, cond}
 use mathlib.Core.List.{List, [], _∷_, _++_}
-use mathlib.Core.Logic.{_↔_}
+use mathlib.Core.Logic.{_↔_, inl}
 use native.Mathlib.Omega.{arith}
 use lib.Dec.{eqb, ltb}
 use lib.ListN.{length, take, drop, length-drop}
@@ -28,6 +29,7 @@ use Rattle.line.proofs.Always.{always as line-always}
 use Rattle.line.proofs.Busy.{busy-turns}
 use Rattle.line.specs.declared.phase.Phase.{Phase}
 use Rattle.line.specs.declared.phase.Phase.the-variants.{Idle, WaitEot, Draining, WaitAck, WaitLength, Body, Silence}
+use Rattle.line.specs.declared.step.Told.{Told}
 use Rattle.exchange.specs.Request.{sendingBy, isSending}
 use Rattle.exchange.specs.History as exchange
 use Rattle.exchange.proofs.BeingSent.{sending-ends}
@@ -35,22 +37,22 @@ use Rattle.exchange.proofs.Areas.{joined-in-areas, always as exchange-always}
 use Rattle.link.specs.Answer.{accepted}
 use Rattle.link.specs.Run.{hasNext, blockIn, blockBytes}
 use Rattle.link.specs.Reading.{sendingOf}
-use Rattle.link.specs.History.{Call, byte, tick, drained, request, called, kept, onLine, settles, onExchange, Track, lineTrack, exchangeTrack, limitsIn, termsIn, next}
+use Rattle.link.specs.History.{Call, byte, tick, drained, request, called, kept, Made, stepIn, heardBy, onLine, settles, onExchange, Track, lineTrack, exchangeTrack, limitsIn, termsIn, next}
 use Rattle.link.specs.Inside.{Reached, Back}
 use Rattle.link.specs.Door.{bytesLeft, lineBytes, onWay, Watch, AtDoor}
-use Rattle.link.specs.Verdicts.{Tells}
+use Rattle.link.specs.Verdicts.{Accepted, Tells}
 use Rattle.link.specs.Device.{comes}
-use Rattle.link.specs.Sends.{senderSeen, blocksOf, LastAck, LastAcknowledged, AckGoesOn, SendsAccepted}
+use Rattle.link.specs.Sends.{senderSeen, blocksOf, LastOut, LastPutOut, LastAck, LastAcknowledged, AckGoesOn, SendsAccepted}
 use Rattle.link.proofs.inside.Reached.{line-inside}
 use Rattle.link.proofs.inside.Places.{lent, goes}
 use Rattle.link.proofs.Accepted.{accepted-calls}
-use Rattle.link.proofs.inside.Courier.{clash}
+use Rattle.link.proofs.inside.Courier.{clash, goesOnBy}
 use Rattle.link.proofs.inside.Agrees.{agrees, few-sent}
 use Rattle.link.proofs.door.Bytes.{called-bytes}
-use Rattle.link.proofs.door.Courier.{byte-calls, calledFor}
+use Rattle.link.proofs.door.Courier.{byte-calls, calledFor, sentOn}
 use Rattle.link.proofs.door.Right.{door-right}
 use Rattle.link.proofs.door.Limits.{unrefused, door-each-enq-its-block}
-use Rattle.link.proofs.device.Told.{told-exactly, ack-tells, sent-exactly}
+use Rattle.link.proofs.device.Told.{told-exactly, ack-tells, put-out-exactly, sent-exactly}
 use Rattle.link.proofs.moves.Own.{underway-exactly}
 use Rattle.link.proofs.verdicts.Back.{exchange-back}
 use Rattle.link.proofs.verdicts.Replies.{on-its-way-exactly}
@@ -120,7 +122,7 @@ sends-accepted t w a back fits16 ours range fits o ok =
     ∙ ap (blockOf (headerAt h (length d) (s .block)))
     (ap (λ (c : Cut). partIn c d) (there-is h d range short (s .block) one most) ∙ part-is d (s .block) one most)
 
--- ---- ACK
+-- ---- the last block
 
 -- the last of its blocks is due exactly where none follows
 last-block : (t : Track) (w : Reached t) → sendingOf (t .link) ≡ true → (hasNext (t .link) ≡ false) ↔ (senderSeen t w .block ≡ blocksOf (senderSeen t w))
@@ -131,8 +133,36 @@ last-block t w s =
     let most = block-moves t w .within s in
     (λ e. let least = ltb-false k n (sym next ∙ e) in omega arith, λ e. next ∙ le-ltb k n (omega arith))
 
-awaited-on : (t : Track) → t .seen .ours ≡ left → onWay (t .seen .ours) ≡ true
-awaited-on t e = ap onWay e
+module _ (t : Track) (w : Reached t) (m : Made) where
+  -- code x came, as one of our blocks stood, and it was the last
+  abbrev AtLast : ℕ → Ours → Type 0
+  AtLast x o = Accepted t m × (comes x (m .call) ≡ true) × (t .seen .ours ≡ o) × (senderSeen t w .block ≡ blocksOf (senderSeen t w))
+
+  -- so the transactions are told T exactly then, where L is what the line tells by that code
+  at-last : {T L : Type 0} (x : ℕ) (o : Ours) → onWay o ≡ true → T ↔ (L × (hasNext (t .link) ≡ false))
+      → L ↔ (Accepted t m × (comes x (m .call) ≡ true) × (t .seen .ours ≡ o)) → T ↔ AtLast x o
+  at-last x o way told line =
+      let last : t .seen .ours ≡ o → (hasNext (t .link) ≡ false) ↔ (senderSeen t w .block ≡ blocksOf (senderSeen t w)) =
+      λ ours. last-block t w (sending-then t w (ap onWay ours ∙ way)) in (
+        λ a. let q = told .0 a in let z = line .0 (q .0) in (z .0, z .1, z .2, last (z .2) .0 (q .1)),
+        λ a. told .1 (line .1 (a .0, a .1, a .2), last (a .2) .1 (a .3)),
+      )
+
+pub last-put-out : LastPutOut
+last-put-out t w m = record {
+  told = told;
+  primary = λ p less. (
+    λ a. (told .0 (a .puts-out .told), a .before, a .wanted),
+    λ a. record { puts-out = record { told = told .1 (a .0); of-it = underway-exactly t w p less .0 (inl (a .1)) }; before = a .1; wanted = a .2 },
+  );
+}
+  where
+    told : Tells t m exchange.put-out ↔ LastOut t (senderSeen t w) m
+    told =
+        let z = at-last t w m EOT enquired refl (told-exactly t m .put-out) (put-out-exactly t w m) in (
+          λ a. let q = z .0 a in record { accepted = q .0; came = q .1; awaited = q .2; last = q .3 },
+          λ a. z .1 (a .accepted, a .came, a .awaited, a .last),
+        )
 
 pub last-acknowledged : LastAcknowledged
 last-acknowledged t w m = record {
@@ -150,15 +180,13 @@ last-acknowledged t w m = record {
 }
   where
     told : Tells t m exchange.acknowledged ↔ LastAck t (senderSeen t w) m
-    told = (
-      λ a.
-          let q = told-exactly t m .acknowledged .0 a in
-          let z = sent-exactly t w m .0 (q .0) in
-          record { accepted = z .0; came = z .1; awaited = z .2; last = last-block t w (sending-then t w (awaited-on t (z .2))) .0 (q .1) },
-      λ a.
-          told-exactly t m .acknowledged .1
-          (sent-exactly t w m .1 (a .accepted, a .came, a .awaited), last-block t w (sending-then t w (awaited-on t (a .awaited))) .1 (a .last)),
-    )
+    told =
+        let z = at-last t w m ACK left refl (told-exactly t m .acknowledged) (sent-exactly t w m) in (
+          λ a. let q = z .0 a in record { accepted = q .0; came = q .1; awaited = q .2; last = q .3 },
+          λ a. z .1 (a .accepted, a .came, a .awaited, a .last),
+        )
+
+-- ---- ACK
 
 abbrev isLeft : Ours → Bool
 isLeft none = false
@@ -190,7 +218,8 @@ module _ (t : Track) (w : Reached t) (o : t .seen .ours ≡ left) (room out : Li
       let block = blockBytes u room in
       called-bytes u room out k ∙ ap (lineBytes c (u .line) (u .received) block) (unrefused (called u room out k .answer .outcome) (onLine u room k) ok)
       ∙ ap (lineBytes c (u .line) (u .received) block) (byte-calls u room (agrees t w .same) (busy-turns c (lineTrack t) (line-inside t w)) b fits)
-      ∙ ack-line c (u .line .held) (u .line .phase) (u .received) block b fits (sym (ours-at t w) ∙ o) e (hasNext u)
+      ∙ ack-line c (u .line .held) (u .line .phase) (u .received) block b fits (sym (ours-at t w) ∙ o) e (sentOn u room k)
+      ∙ ap (λ (z : Told). cond (goesOnBy z u (heardBy u (stepIn u k) room .midway .exchange)) (ENQ ∷ []) []) (ack-tells t w k e o)
   ack-bytes tick ok e = clash e
   ack-bytes drained ok e = clash e
   ack-bytes (request r) ok e = clash e
@@ -212,7 +241,7 @@ pub ack-goes-on : AckGoesOn
 ack-goes-on t w a m ok came ours =
     let r = a .reached in
     let o : t .seen .ours ≡ left = at-door t w a ∙ ours in
-    let sending = sending-then t r (awaited-on t o) in
+    let sending = sending-then t r (ap onWay o) in
     let bytes = ack-bytes t r o (lent t m) (m .out) (m .call) ok came in
     let x = exchangeTrack t (lent t m) in
     let sends : sendingOf (next t m .link) ≡ cond (hasNext (t .link)) true false =

@@ -41,7 +41,7 @@ use Rattle.link.proofs.Cases.{by-gate, by-byte, by-request}
 use Rattle.link.proofs.Steps.{at-byte, at-tick, at-drained}
 use Rattle.link.proofs.inside.Reached.{reached-next, start, reached-start}
 use Rattle.link.proofs.inside.Places.{lent, goes, same-terms, sound-inside}
-use Rattle.link.proofs.inside.Courier.{clash, sendingOn, told-sends}
+use Rattle.link.proofs.inside.Courier.{clash, goesOnBy, sendingOn, heardAs, told-sends, out-sends}
 use Rattle.link.proofs.inside.Agrees.{message-of, agrees}
 use Rattle.link.proofs.device.Told.{ack-came, ack-tells}
 use Rattle.link.proofs.sends.Posts.{seen, message-goes}
@@ -50,12 +50,14 @@ use Rattle.link.proofs.sends.Posts.{seen, message-goes}
 
 abbrev isSent : Told → Bool
 isSent told.Nothing = false
+isSent told.PutOut = false
 isSent told.Sent = true
 isSent told.Failed = false
 isSent (told.Up n) = false
 
 is-sent : (t : Told) → isSent t ≡ true → t ≡ told.Sent
 is-sent told.Nothing e = clash e
+is-sent told.PutOut e = clash e
 is-sent told.Sent e = refl
 is-sent told.Failed e = clash e
 is-sent (told.Up n) e = clash e
@@ -85,13 +87,18 @@ module _ (l : Line) (k : ℕ) where
       let b : sendingBy z ≡ true = ap sendingBy (sym e) ∙ s in
       (b, λ i. courierBy (b i) (s i) t l k .block)
 
-  told-block : (t : Told) (more : Bool) (z y : Sending) → y ≡ sendingOn t more z → sendingBy y ≡ true
+  -- it goes on at the same block, or behind an ACK at the next
+  on-block : (t : Told) → courierBy true true t l k .block ≡ cond (isSent t) (k + 1) k
+  on-block told.Nothing = refl
+  on-block told.PutOut = refl
+  on-block told.Sent = refl
+  on-block told.Failed = refl
+  on-block (told.Up n) = refl
+
+  told-block : (t : Told) (on : Bool) (z y : Sending) → y ≡ sendingOn on z → sendingBy y ≡ true
       → (sendingBy z ≡ true) × (courierBy (sendingBy z) (sendingBy y) t l k .block ≡ cond (isSent t) (k + 1) k)
-  told-block told.Nothing more z y e s = same-block told.Nothing z y e s
-  told-block told.Sent true z y e s = same-block told.Sent z y e s
-  told-block told.Sent false z y e s = clash (ap sendingBy (sym e) ∙ s)
-  told-block told.Failed more z y e s = clash (ap sendingBy (sym e) ∙ s)
-  told-block (told.Up n) more z y e s = same-block (told.Up n) z y e s
+  told-block t true z y e s = let b = same-block t z y e s in (b .0, b .1 ∙ on-block t)
+  told-block t false z y e s = clash (ap sendingBy (sym e) ∙ s)
 
 module _ (t : Track) (w : Reached t) (k : ℕ) (due : sendingOf (t .link) ≡ true → t .link .block ≡ k) where
   abbrev u : Link
@@ -104,13 +111,13 @@ module _ (t : Track) (w : Reached t) (k : ℕ) (due : sendingOf (t .link) ≡ tr
   stepped-moves : (c : Call) (ticks : Bool) (room o : List ℕ) → Moves c (stepped ticks u (stepIn u c) room o)
   stepped-moves c ticks room o s =
       let h = stepIn u c in
-      let b = told-block (h .step .line) (u .block) (h .step .told) (hasNext u) (u .exchange .sending) _ (told-sends u h room ticks (h .step .told) (h .step .remark)) s in
+      let b = told-block (h .step .line) (u .block) (h .step .told) (goesOnBy (h .step .told) u (heardAs u h room (h .step .told) (h .step .remark))) (u .exchange .sending) _ (told-sends u h room ticks (h .step .told) (h .step .remark)) s in
       b .1 ∙ (λ i. cond (sym (acks-told t w c) i) (due (b .0) i + 1) (due (b .0) i))
 
   gated-moves : (c : Call) (room o : List ℕ) (l : Left) → Moves c l → Moves c (gated u room o l)
   gated-moves c room o l m = by-gate (Moves c) u room o l (λ r e s. due s) (λ e. m)
 
-  -- where the whole block leaves, nothing is told
+  -- where the whole block leaves, the message goes on
   byte-moves : (b : ℕ) (fits : b < 256) (room o : List ℕ) → Moves (byte b fits) (byteStepped u (byteStep u b) room o)
   byte-moves b fits room o =
       let h = stepIn u (byte b fits) in
@@ -119,7 +126,8 @@ module _ (t : Track) (w : Reached t) (k : ℕ) (due : sendingOf (t .link) ≡ tr
       (by-byte (λ p. Moves (byte b fits)) u h room o (λ e. on) (λ x e. on)
       (λ e s.
       let quiet = block-alone (u .settings .limits) (u .line) (u .received) .block (line.byte b fits) e .told in
-      due s ∙ sym (ap (λ z. cond z (k + 1) k) (acks-told t w (byte b fits) ∙ ap isSent quiet))))
+      due (ap sendingBy (sym (out-sends u h room (h .step .told) (h .step .remark) quiet)) ∙ s)
+      ∙ sym (ap (λ z. cond z (k + 1) k) (acks-told t w (byte b fits) ∙ ap isSent quiet))))
 
   -- a message begins with its block 1
   begins : (r : Request) → lends r ≡ true → startsBy r k ≡ 1

@@ -49,6 +49,7 @@ module _ (t : Track) (s : Post) (m : Made) where
   few-seen _ device.none n = refl
   few-seen _ (device.one (exchange.block h d)) n = refl
   few-seen _ (device.one exchange.tick) n = refl
+  few-seen _ (device.one exchange.put-out) n = refl
   few-seen _ (device.one exchange.acknowledged) n = refl
   few-seen _ (device.one exchange.failed) n = refl
   few-seen _ (device.one (exchange.request r)) n = absurd (n r here)

@@ -102,7 +102,7 @@ module _ (t : Track) (p : ℕ) where
   abbrev shown : incoming.Shows
   shown = incoming.shows (here t p)
 
-  none-read : (isThere t p ≡ false) ↔ (shown ≡ incoming.nothing)
+  pub none-read : (isThere t p ≡ false) ↔ (shown ≡ incoming.nothing)
   none-read = (λ e. none-shown shown (sym (reads t p .there) ∙ e), λ e. reads t p .there ∙ ap showing e)
 
   open-read : ((isThere t p ≡ true) × (isComplete t p ≡ false)) ↔ (shown ≡ incoming.arriving)

@@ -10,6 +10,7 @@ use Rattle.room.specs.declared.Message.the-variants as message
 use Rattle.place.specs.Own.{primaryOf, standingAt, ownStanding, freeBy, givenBy, ownHasVerdict, keptAt, ownKept}
 use Rattle.place.specs.OwnHistory as own
 use Rattle.place.specs.OwnTheorems as place
+use Rattle.place.proofs.Blocks.{own-takes-exactly}
 use Rattle.place.proofs.Verdicts as proved
 use Rattle.place.proofs.Falling.{verdict-falls as falls}
 use Rattle.place.specs.declared.Verdict.{Verdict}
@@ -29,13 +30,14 @@ use Rattle.exchange.specs.declared.OwnReading.the-variants as reading
 use Rattle.exchange.proofs.Accepting.{accepted-releases}
 use Rattle.exchange.proofs.Holding.{OwnHolds}
 use Rattle.exchange.proofs.Areas.{always}
+use Rattle.exchange.proofs.Judging.{reply-says}
 use Rattle.exchange.proofs.Numbering.{read}
 use Rattle.exchange.proofs.Places.{no-place-exactly as places-read}
 use Rattle.exchange.proofs.Releases.{verdict-stays}
 use Rattle.exchange.proofs.Runs.{four-places}
 use Rattle.link.specs.Reading.{ownOf, replyBy}
 use Rattle.link.specs.History.{Track, exchangeTrack, termsIn, next, track}
-use Rattle.link.specs.Verdicts.{standingBy, standing, StandingRead, VerdictExactly, AnsweredExactly, FreeExactly, NoPlaceExactly, NoneAbove, requestIn, replyIn, RequestRead, ArrivingRead, WholeRead, NoReplyRead, ReplyRead, OwnStays, KeptUntilReleased, OneVerdict, Decided, VerdictFalls}
+use Rattle.link.specs.Verdicts.{standingBy, standing, StandingRead, VerdictExactly, AnsweredExactly, FreeExactly, ReplyTakesExactly, NoPlaceExactly, NoneAbove, requestIn, replyIn, RequestRead, ArrivingRead, WholeRead, NoReplyRead, ReplyRead, OwnStays, KeptUntilReleased, OneVerdict, Decided, VerdictFalls}
 use Rattle.link.proofs.inside.Places.{lent, sound-inside, places-inside}
 use Rattle.link.proofs.verdicts.Back.{exchange-back, fills-read}
 use Rattle.link.proofs.verdicts.Released.{KeptBut, released-or-spared, stays-once, stays-until}
@@ -66,6 +68,7 @@ in-use (Given v) h r used = refl
 by-stage : (h : List ℕ) (z : OwnStage) → replyIn (read (record { header = h; stage = z })) ≡ keptAt z
 by-stage h stage.Free = refl
 by-stage h stage.Sending = refl
+by-stage h stage.PutOut = refl
 by-stage h (stage.Awaiting timer) = refl
 by-stage h (stage.Replying a) = refl
 by-stage h (stage.Done v r) = refl
@@ -128,10 +131,21 @@ answered-exactly t w p k =
     let v = verdict-exactly t w p k Answered in (
       λ e.
           let a = v .0 e in
-          record { acknowledged = a .0 .asked .acked; wanted = a .0 .asked .wanted; whole = a .0 .whole; stream = a .1 .stream; function = a .1 .function },
+          record { received = a .0 .asked .received; wanted = a .0 .asked .wanted; whole = a .0 .whole; stream = a .1 .stream; function = a .1 .function },
       λ r.
           v .1
-          (record { asked = record { acked = r .acknowledged; wanted = r .wanted }; whole = r .whole }, record { stream = r .stream; function = r .function }),
+          (record { asked = record { received = r .received; wanted = r .wanted }; whole = r .whole }, record { stream = r .stream; function = r .function }),
+    )
+
+-- ---- which blocks are the reply's
+
+pub reply-takes-exactly : ReplyTakesExactly
+reply-takes-exactly t w p k b q =
+    let inside = standing-read t p in
+    let says = reply-says (ownPlace (t .link .exchange) p) b in
+    let takes = own-takes-exactly (termsIn t) _ (places-inside t w .own p k) b q in (
+      λ r. let d = takes .0 (says .1 r) in (d .awaited, inside ∙ d .undecided, d .fits),
+      λ y. says .0 (takes .1 (record { awaited = y .0; undecided = sym inside ∙ y .1; fits = y .2 })),
     )
 
 -- ---- the bytes of a reply
@@ -142,6 +156,7 @@ module _ (room : List ℕ) (p : ℕ) (bs : List ℕ) (whole : length room ≡ 36
       → (replyBy (read (record { header = h; stage = z })) room p ≡ bs) × (keptAt z .length ≡ length bs)
   reply-reads h stage.Free e g = absurd (false≢true (ap givenBy e))
   reply-reads h stage.Sending e g = absurd (false≢true (ap givenBy e))
+  reply-reads h stage.PutOut e g = absurd (false≢true (ap givenBy e))
   reply-reads h (stage.Awaiting timer) e g = absurd (false≢true (ap givenBy e))
   reply-reads h (stage.Replying a) e g = absurd (false≢true (ap givenBy e))
   reply-reads h (stage.Done u r) e g =

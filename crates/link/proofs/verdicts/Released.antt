@@ -40,6 +40,7 @@ request-is (free-incoming q) side.incoming p e = ap free-incoming (eqb-true q p 
 call-is : (k : exchange.Call) (z : Side) (p : ℕ) → frees k z p ≡ true → k ≡ exchange.request (releaseOf z p)
 call-is (exchange.block h d) z p e = absurd (false≢true e)
 call-is exchange.tick z p e = absurd (false≢true e)
+call-is exchange.put-out z p e = absurd (false≢true e)
 call-is exchange.acknowledged z p e = absurd (false≢true e)
 call-is exchange.failed z p e = absurd (false≢true e)
 call-is (exchange.request r) z p e = ap exchange.request (request-is r z p e)

@@ -3,17 +3,23 @@ use Prim.Native.Nat.{ℕ, _<_}
 use mathlib.Core.Path.{_≡_, refl, sym, ap, _∙_, subst}
 use mathlib.Core.Bool.{Bool, true, false, false≢true, true≢false}
 use mathlib.Core.Logic.{_↔_, _⊎_, inl, inr, ⊎-elim}
+use native.Mathlib.Omega.{arith}
 use Rattle.wire.proofs.Choice.{either}
 use Rattle.header.specs.declared.header.Header.{Header}
 use Rattle.place.specs.Message.{firstOf}
-use Rattle.place.specs.Incoming.{primaryOf, incomingIsReplied}
-use Rattle.place.specs.IncomingHistory.{shows}
+use Rattle.place.specs.Incoming.{primaryOf, repliedAt, incomingIsReplied}
+use Rattle.place.specs.IncomingHistory.{showsAt, shows}
 use Rattle.place.specs.IncomingTheorems as place
+use Rattle.place.specs.declared.End.the-variants as end
+use Rattle.place.specs.declared.IncomingStage.{IncomingStage}
+use Rattle.place.specs.declared.IncomingStage.the-variants as stage
+use Rattle.place.specs.declared.Incoming.{Incoming}
 use Rattle.exchange.specs.Exchange.{incomingPlace}
 use Rattle.exchange.specs.Reading.{incomingReading, stageBy, hasEnded}
+use Rattle.exchange.specs.Refusals.{NotReady, above, free, not-complete, on-its-way, RepliedBefore, replied}
 use Rattle.exchange.specs.History as exchange
 use Rattle.exchange.specs.Releases as side
-use Rattle.exchange.specs.Underway.{Way, none, onway, sent, failed, way, wayOf, isOnway, ReplyAt}
+use Rattle.exchange.specs.Underway.{Way, none, onway, sent, failed, wayAt, way, wayOf, isOnway, ReplyAt}
 use Rattle.exchange.specs.Watching.{replyFrom}
 use Rattle.exchange.specs.declared.Exchange.{Exchange}
 use Rattle.exchange.specs.declared.ReplyStage.{ReplyStage}
@@ -23,7 +29,7 @@ use Rattle.exchange.proofs.Replies.{reply-read, reply-watched}
 use Rattle.exchange.proofs.Places.{owed-exactly as owed-at}
 use Rattle.link.specs.Reading.{incomingOf}
 use Rattle.link.specs.History.{Track, termsIn, track}
-use Rattle.link.specs.Verdicts.{AtEach, isComplete, replyStands, OnItsWayExactly, Unanswered, Owes, OwedExactly, EndStays, OneEnd}
+use Rattle.link.specs.Verdicts.{AtEach, isComplete, replyStands, OnItsWayExactly, Unanswered, Owes, OwedExactly, ReadyPlaces, EndStays, OneEnd}
 use Rattle.link.specs.Inside.{Reached}
 use Rattle.link.proofs.inside.Places.{exchange-inside}
 use Rattle.link.proofs.verdicts.Messages.{readAs, here, reads, there-too, message-shown}
@@ -137,3 +143,55 @@ module _ (t : Track) (p : ℕ) (k : p < 4) (e : hasEnded (replyStands t p) ≡ t
 
 pub one-end : OneEnd
 one-end t w p k e ms us = stays t (track t ms) p (stays-until side.incoming p (Same t p k e) (same-on t p k e) t w ms us refl)
+
+-- ---- what refusals 9, 10 and 11 go by is what is read
+
+module _ (t : Track) (p : ℕ) where
+  abbrev place-here : Incoming
+  place-here = here t p
+
+  open-stage : (z : IncomingStage) → place-here .stage ≡ z → place.isComplete (showsAt z) ≡ false → NotReady (t .link .exchange) p
+  open-stage stage.Free e c = free e
+  open-stage (stage.Open a) e c = not-complete a e
+  open-stage (stage.Complete n) e c = absurd (true≢false c)
+  open-stage (stage.Replying n) e c = absurd (true≢false c)
+  open-stage (stage.Replied n f) e c = absurd (true≢false c)
+
+  way-stage : (z : IncomingStage) → place-here .stage ≡ z → isOnway (wayAt z) ≡ true → NotReady (t .link .exchange) p
+  way-stage stage.Free e c = absurd (false≢true c)
+  way-stage (stage.Open a) e c = absurd (false≢true c)
+  way-stage (stage.Complete n) e c = absurd (false≢true c)
+  way-stage (stage.Replying n) e c = on-its-way n e
+  way-stage (stage.Replied n end.Sent) e c = absurd (false≢true c)
+  way-stage (stage.Replied n end.Failed) e c = absurd (false≢true c)
+
+  ended-stage : (z : IncomingStage) → place-here .stage ≡ z → repliedAt z ≡ true → RepliedBefore (t .link .exchange) p
+  ended-stage stage.Free e c = absurd (false≢true c)
+  ended-stage (stage.Open a) e c = absurd (false≢true c)
+  ended-stage (stage.Complete n) e c = absurd (false≢true c)
+  ended-stage (stage.Replying n) e c = absurd (false≢true c)
+  ended-stage (stage.Replied n f) e c = replied n f e
+
+  -- as it is read
+  reads-ready : NotReady (t .link .exchange) p → p < 4 → (isComplete t p ≡ false) ⊎ (replyStands t p ≡ OnItsWay)
+  reads-ready (above n) k = absurd (omega arith)
+  reads-ready (free e) k = inl (reads t p .complete ∙ ap (λ (z : IncomingStage). place.isComplete (showsAt z)) e)
+  reads-ready (not-complete a e) k = inl (reads t p .complete ∙ ap (λ (z : IncomingStage). place.isComplete (showsAt z)) e)
+  reads-ready (on-its-way n e) k =
+      inr (is-onway (replyStands t p) (ap isOnway (reply-read (t .link .exchange) p .stands) ∙ ap (λ (z : IncomingStage). isOnway (wayAt z)) e))
+
+  reads-replied : RepliedBefore (t .link .exchange) p → hasEnded (replyStands t p) ≡ true
+  reads-replied (replied n f e) = reply-read (t .link .exchange) p .ended ∙ ap repliedAt e
+
+pub ready-places : ReadyPlaces
+ready-places t p =
+    let read-of = reply-read (t .link .exchange) p in
+    record {
+      not-ready = λ k. (
+        λ n. reads-ready t p n k,
+        ⊎-elim (λ e. open-stage t p (here t p .stage) refl (sym (reads t p .complete) ∙ e))
+            (λ e. way-stage t p (here t p .stage) refl (sym (ap isOnway (read-of .stands)) ∙ ap (λ (r : ReplyStage). isOnway (wayOf r)) e)),
+      );
+      not-wanted = λ there. let e = ap (λ (h : Header). h .w) (reads t p .header there) in (λ n. e ∙ n, λ n. sym e ∙ n);
+      replied = (reads-replied t p, λ e. ended-stage t p (here t p .stage) refl (sym (read-of .ended) ∙ e));
+    }

@@ -23,4 +23,4 @@ reply-block-spec =
     (λ c κs. search needs)
     (λ c κs. search needs)
     (λ c. search needs)
-    (λ c. simp (c .before .got-verdict .ensures, c .before .before .note-of .ensures, c .before .before .before .put-own .ensures, c .before .before .before .before .before .before .keep-by .ensures, c .before .before .before .before .before .before .before .before .offered .ensures, c .before .before .before .before .before .before .before .before .before .fate-of .ensures, c .before .before .before .before .before .before .before .before .before .before .reply .ensures, (own-place (c .before .before .before .before .before .before .before .before .before .before)) .own-place .ensures, c .verdict-flag .ensures)))
+    (λ c. simp (c .before .got-verdict .ensures, c .before .before .note-of .ensures, c .before .before .before .put-replied .ensures, c .before .before .before .before .before .before .keep-by .ensures, c .before .before .before .before .before .before .before .before .offered .ensures, c .before .before .before .before .before .before .before .before .before .fate-of .ensures, c .before .before .before .before .before .before .before .before .before .before .reply .ensures, (own-place (c .before .before .before .before .before .before .before .before .before .before)) .own-place .ensures, c .verdict-flag .ensures)))

@@ -1,5 +1,5 @@
 -- `step::onward` meets its contract. Assumes nothing.
-use Rattle.unit.proofs.Courses.{goes-onward}
+use Rattle.unit.proofs.Courses.{notes-so, goes-onward}
 use borrow.Author.Needs.{needs}
 use Rattle.unit.proofs.step.onward.Statement.{statement}
 use Rattle.unit.proofs.step.onward.Tie as tie
@@ -18,4 +18,7 @@ onward-spec =
     (λ c κs. search needs)
     (λ c. search needs)
     (λ c. search needs)
-    (λ c. goes-onward ((start (c .before .before .before .before .before .before .before .before)) .args .link) ((start (c .before .before .before .before .before .before .before .before)) .args .put) ((start (c .before .before .before .before .before .before .before .before)) .args .ticks) ((start (c .before .before .before .before .before .before .before .before)) .args .told) ((start (c .before .before .before .before .before .before .before .before)) .args .out .now) (c .before .before .before .before .before .passing .ensures) (rw (c .before .before .before .before .before .before .before .before .before .before .note-of .ensures) at (c .before .before .before .before .before .before .before .before .tells .ensures)) (c .before .before .course .ensures)))
+    (λ c.
+    let t = c .before .before .before .before .before .before .before .before in
+    let s = start t in
+    goes-onward (s .args .link) (s .args .put) (s .args .ticks) (s .args .told) (s .args .out .now) (c .before .before .before .before .before .passing .ensures) (notes-so (s .args .told) (s .args .remark) (s .args .link) (s .args .room .now) (t .before .before .note-of .ensures) (t .tells .ensures)) (c .before .before .course .ensures)))

@@ -13,6 +13,6 @@ eot-byte-spec =
     (λ c κs. search needs)
     (λ c κs. search needs)
     (λ c κs. search needs)
-    (λ c. simp (eq-eqb _ _ (c .before .if1 .taken)) (c .goes .ensures))
+    (λ c. simp (eq-eqb _ _ (c .before .if1 .taken)) (c .tells .ensures))
     (λ c. simp (ne-eqb _ _ (c .before .before .if1 .left), eq-eqb _ _ (c .before .if2 .taken)) (c .give-way .ensures))
     (λ c. simp (ne-eqb _ _ (c .before .before .if1 .left), ne-eqb _ _ (c .before .if2 .left)) (c .stays .ensures)))
