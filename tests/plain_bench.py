@@ -2,7 +2,8 @@
 """The bench program, written a second time: lines in, lines out.
 
     plain_bench.py < script          as 01's "Bench program" says
-    plain_bench.py --listing         runs the listing of 01 and compares
+    plain_bench.py --listing         runs the listings and compares: that of
+                                     01, and one of request 2 of 02
 
 The unit itself is in plain_unit.py.  Input is taken as bytes: only the
 newline separates lines, any other byte belongs to its line.
@@ -90,6 +91,10 @@ class Bench:
             return answer(*self.unit.drained())
         if command == b"V":
             return self.verdict(rest)
+        if command == b"K":
+            # 02, request 2: the count of reports that were dropped.
+            self.expect(rest, 0)
+            return "K %d" % self.unit.dropped
         raise CannotRead
 
     def expect(self, rest, count):
@@ -196,14 +201,37 @@ V 0 2
 """
 
 
+# The sum of the report: 80+01+09+01+80+01+01 = 010D, 21+0A = 2B, and those of
+# the header that it shows, 02+81+01+80+01+01 = 0106; in all 023E.
+REPORT_IN = b"""\
+E 1 1 1 1 0 1 1 0
+B 05
+B 0A000281018001000000010106
+B 04
+K
+"""
+
+REPORT_OUT = """\
+0 - 20
+0 04 20
+0 0605 22
+0 1680010901800100000001210A00028101800100000001023E 20
+K 0
+"""
+
+
 def listing():
-    """The listing of 01 must come out word for word."""
-    got = "".join(line + "\n" for line in run(LISTING_IN))
-    if got == LISTING_OUT:
-        print("listing: as in 01")
-        return 0
-    print("listing: DIFFERENT\n" + got, end="")
-    return 1
+    """The listings must come out word for word."""
+    different = 0
+    for name, script, wanted in (("01", LISTING_IN, LISTING_OUT),
+                                 ("request 2", REPORT_IN, REPORT_OUT)):
+        got = "".join(line + "\n" for line in run(script))
+        if got == wanted:
+            print("listing of %s: as it should be" % name)
+        else:
+            different = 1
+            print("listing of %s: DIFFERENT\n%s" % (name, got), end="")
+    return different
 
 
 def main():

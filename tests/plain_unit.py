@@ -1,5 +1,6 @@
 """The link unit, written a second time, straight from the rules of 01 and of
-request 1 of 02 (a reply that overtakes the ACK).
+requests 1 and 2 of 02 (a reply that overtakes the ACK; the equipment tells the
+host what was thrown out).
 
 Nothing here is shared with the proved program.  The aim is that a reader can
 hold this file beside 01 and check it sentence by sentence.  Comments name the
@@ -53,6 +54,12 @@ V_OTHER, V_BROKEN, V_NO_REPLY, V_FAILED = 4, 5, 6, 7
 
 AREA = 4096          # bytes in one area of the lent room
 FULL = 244           # data bytes in a filled block
+
+# 02, request 2: "A misrouted block gives S9F1, verdict 6 gives S9F9, a message
+# over the limit gives S9F11".
+S9_MISROUTED, S9_NO_REPLY, S9_TOO_LONG = 1, 9, 11
+MOST_WAITING = 8             # "Up to 8 reports wait"
+MOST_DROPPED = 4294967295    # where the count of those dropped stops
 
 
 def byte_sum(content):
@@ -115,6 +122,7 @@ class OwnPlace:
         self.w = 0
         self.stream = 0
         self.function = 0
+        self.last_header = b""    # of its primary's last block: for S9F9
         self.timer = 0            # T3 while awaited, T4 while a reply is open
         # The reply, from its first block on.
         self.first = None         # Header of the first block
@@ -134,12 +142,13 @@ class IncomingPlace:
 
 
 class Outgoing:
-    """The one message that is being sent or held."""
+    """The one message that is being sent or held, a report among them."""
 
     def __init__(self, blocks, owner):
         self.blocks = blocks
         self.at = 0               # index of the block under way
-        self.owner = owner        # an OwnPlace or an IncomingPlace
+        self.owner = owner        # an OwnPlace or an IncomingPlace, or None:
+                                  # "Reports take no own place"
 
 
 def settings_in_range(t1, t2, t3, t4, rty, device, duplicates, last):
@@ -177,6 +186,9 @@ class Unit:
         self.saved = None         # saved header; "none at a start"
         self.latest = None        # number of the latest own transaction that
                                   # got a verdict (reading 21: stays)
+        self.waiting = []         # reports that wait, the oldest first: each a
+                                  # function of stream 9 and ten header bytes
+        self.dropped = 0          # the count of those that found no room there
 
     # ---- what the other end must put in the first two header bytes --------
 
@@ -208,13 +220,15 @@ class Unit:
         if self.tries > self.rty:
             self.phase = IDLE
             self.send_failed()
-            return b""
+            return self.oldest_report()
         return self.put_enq()
 
     def send_failed(self):
         owner = self.sending.owner
         self.sending = None
-        if isinstance(owner, OwnPlace):
+        if owner is None:
+            pass       # reports "are sent once": one that failed is over
+        elif isinstance(owner, OwnPlace):
             # Reading 20: verdict 7 also if earlier blocks were acknowledged.
             self.give_verdict(owner, V_FAILED)
         else:
@@ -250,12 +264,14 @@ class Unit:
         # Reading 9: after the ACK of the last block the line is idle.
         self.phase = IDLE
         self.message_sent()
-        return b""
+        return self.oldest_report()
 
     def message_sent(self):
         owner = self.sending.owner
         self.sending = None
-        if not isinstance(owner, OwnPlace):
+        if owner is None:
+            pass                         # a report: W = 0, and no place
+        elif not isinstance(owner, OwnPlace):
             owner.state = REPLIED
         elif owner.w == 0:
             self.give_verdict(owner, V_SENT)
@@ -264,6 +280,40 @@ class Unit:
             # reply is awaited began earlier, see put_block_out.
             owner.state = AWAITED
             owner.timer = 0
+
+    # ---- reports of the equipment (02, request 2) --------------------------
+
+    def report(self, function, header):
+        """There is something to tell the host.  While nothing is being sent
+        or held the report starts now, else it waits; "a ninth is dropped, and
+        a count of those ... goes up by one".  "The equipment side" reports: a
+        host does not."""
+        if self.host:
+            return b""
+        if self.sending is None:
+            return self.start_report(function, header)
+        if len(self.waiting) < MOST_WAITING:
+            self.waiting.append((function, header))
+        elif self.dropped < MOST_DROPPED:
+            self.dropped += 1
+        return b""
+
+    def oldest_report(self):
+        """"The oldest goes first, in the call that frees the line": a message
+        has just ended, sent or failed, and the line is idle."""
+        if not self.waiting:
+            return b""
+        return self.start_report(*self.waiting.pop(0))
+
+    def start_report(self, function, header):
+        """"All with W = 0, source ID 0 and a new transaction number, taken
+        when the report starts.  The body is the two bytes hex 21 0A, then the
+        ten header bytes of the offending block".  Twelve bytes: one block."""
+        self.last = self.next_transaction_number()
+        system = bytes([0, 0, self.last >> 8, self.last & 0xFF])
+        blocks = cut(self.outgoing_first_two(), 0, 9, function, system,
+                     bytes([0x21, 0x0A]) + header)
+        return self.ask_to_send(blocks, None)
 
     # ---- receiving --------------------------------------------------------
 
@@ -339,7 +389,8 @@ class Unit:
                 self.begin_silence(BAD_SUM)
                 return 0, b"", NOTHING
             # The block is judged first: one that it withdraws is no more
-            # held, and no ENQ of it follows the ACK.
+            # held, and no ENQ of it follows the ACK; a report that it starts
+            # is held, and its ENQ follows.
             note = self.judge(content)
             return 0, self.end_receive(ACK), note
 
@@ -370,6 +421,8 @@ class Unit:
                 place.timer += 1
                 if place.timer > self.t3:
                     self.give_verdict(place, V_NO_REPLY)
+                    # Alone, behind the line's NAK, or none while it receives.
+                    out += self.report(S9_NO_REPLY, place.last_header)
             elif place.state == OPEN:
                 place.timer += 1
                 if place.timer > self.t4:
@@ -401,6 +454,7 @@ class Unit:
 
         # Rule 1.  The saved header is kept.
         if not self.is_ours(header):
+            self.report(S9_MISROUTED, header.raw)
             return MISROUTED
 
         # Rule 2.
@@ -427,6 +481,7 @@ class Unit:
         # Rule 5.  Only a continuing block can exceed the area.
         if continued is not None and len(continued.data) + len(data) > AREA:
             self.break_message(continued)
+            self.report(S9_TOO_LONG, header.raw)
             return TOO_LONG
 
         # Rule 6, and where the block is kept.
@@ -521,9 +576,10 @@ class Unit:
     # ---- the user's calls --------------------------------------------------
 
     def next_transaction_number(self):
-        """The next after the last given, 65,535 being followed by 1.  Numbers
-        in own places in use are passed over, and that of the latest own
-        transaction to get a verdict."""
+        """The next after the last given, to a primary or a report, 65,535
+        being followed by 1.  Numbers in own places in use are passed over,
+        and that of the latest own transaction to get a verdict; that of a
+        report, which has no place and gets no verdict, is not."""
         passed_over = [p.number for p in self.own if p.state != FREE]
         passed_over.append(self.latest)
         number = self.last
@@ -541,7 +597,8 @@ class Unit:
         return b""
 
     def open(self, source, w, stream, function, data):
-        """A primary of ours.  Order of refusals: 5, 6, 7, 8."""
+        """A primary of ours.  Order of refusals: 5, 6, 7, 8.  "Refusal 7 also
+        covers a report on its way", here and in a reply."""
         if stream > 127 or function % 2 == 0:
             return 5, b"", NOTHING
         if len(data) > AREA:
@@ -566,6 +623,7 @@ class Unit:
         place.function = function
         blocks = cut(self.outgoing_first_two(), w, stream, function,
                      place.system, data)
+        place.last_header = blocks[-1][:10]
         return 0, self.ask_to_send(blocks, place), NOTHING
 
     def reply(self, index, function, data):

@@ -35,7 +35,7 @@ MOST_ON_A_LINE = 511          # "B " and 511 bytes in hex are 1,024 bytes
 USUAL_KINDS = dict(primary=10, first=8, go_on=24, answer=24, restart=3,
                    like_complete=1, again=3, again_data=1, recent=2, empty=4,
                    stale=2, off=5, stray=1, number0=1, all_ff=0.3, early=4,
-                   overtake=30)
+                   overtake=30, to_report=1)
 
 USUAL = dict(
     right=0.90,        # the far end does what the line waits for
@@ -64,6 +64,7 @@ USUAL = dict(
     wants_reply=0.7,   # W in primaries, both ways
     patience=0.05,     # a step tries where a timer ends, see there
     long_message=0.0015,
+    in_vain=0.002,     # several replies are waited for in vain, see there
     kinds=USUAL_KINDS,
 )
 
@@ -117,11 +118,16 @@ MOODS = {
     "overtaken": mood(lose_ack=0.5, contend_out=0.8, wants_reply=0.9, user=0.3,
                       open=8, release=5, right=0.95, contend=0.25, ask=0.1,
                       kinds=dict(primary=8, first=4, recent=4, early=20)),
+    "reporting": mood(misroute=0.3, ask=0.25, user=0.2, open=8, release=6,
+                      wants_reply=0.9, right=0.93, wait=0.06, lose_ack=0.15,
+                      patience=0.06, in_vain=0.05, long_message=0.012,
+                      look=0.1, split=0.5, good_user=0.75,
+                      kinds=dict(answer=6, to_report=6, again=6, recent=6)),
     "edges": mood(wait=0.2, patience=0.25, right=0.97, user=0.2, damage=0.0, misroute=0.01,
                   single=0.4, last_block=0.15, split=0.6,
                   kinds=dict(stale=6, answer=30, go_on=40, restart=4)),
 }
-MOOD_NAMES = sorted(MOODS) + ["overtaken"] * 2
+MOOD_NAMES = sorted(MOODS) + ["overtaken"] * 2 + ["reporting"] * 4
 
 
 # ---------------------------------------------------------------------------
@@ -212,6 +218,10 @@ class Writer:
             last = rng.randint(65525, 65535)
         if self.mood_name == "overtaken":
             rty = rng.choice((1, 1, 2, 3, 31))
+        if self.mood_name == "reporting":
+            rty = rng.choice((0, 0, 0, 1, 1, 2, 3))
+            t3 = rng.choice((1, 1, 1, 2))
+            last = rng.choice((last, rng.randint(65530, 65535)))
         return [t1, t2, t3, t4, rty, device, duplicates, last]
 
     def start_line(self, settings):
@@ -219,8 +229,8 @@ class Writer:
         if self.chance(0.05):
             i = self.rng.randrange(8)
             numbers[i] = "0" * self.rng.randint(1, 9) + numbers[i]
-        roles = "HHHE" if self.mood_name == "overtaken" else "HE"
-        return self.rng.choice(roles) + " " + " ".join(numbers)
+        roles = {"overtaken": "HHHE", "reporting": "EEEEEH"}
+        return self.rng.choice(roles.get(self.mood_name, "HE")) + " " + " ".join(numbers)
 
     def start(self):
         answer = self.put(self.start_line(self.settings()))
@@ -399,6 +409,8 @@ class Writer:
             weights["early"] = 0
         if not out:
             weights["overtake"] = 0
+        if u.host or not u.last:
+            weights["to_report"] = 0
         if not self.sent:
             weights["again"] = weights["again_data"] = weights["recent"] = 0
         if 22 <= self.note <= 27:
@@ -466,6 +478,11 @@ class Writer:
                 content = self.replying(out[0], 0)[:10]
             elif self.chance(0.1):
                 content = self.spoil_header(content)
+        elif kind == "to_report":
+            # As if a report, the last number given, had asked for a reply.
+            content = self.header(rng.randrange(2), 9, rng.choice((0, 2, 10, 12)),
+                                  1, rng.choice((0, 1)),
+                                  bytes([0, 0, u.last >> 8, u.last & 0xFF]))
         elif kind == "off":
             content = self.spoil_header(self.continuing(rng.choice(opened)))
         elif kind == "stray":
@@ -845,7 +862,9 @@ class Writer:
     def look(self):
         """Read what can be read.  A reply with function 1 fits no primary;
         its refusal tells the state of the place and changes nothing."""
-        if self.chance(0.6):
+        if self.chance(0.1):
+            self.put("K")
+        elif self.chance(0.6):
             self.put("V %d" % self.rng.randrange(4))
         elif self.chance(0.8):
             self.put("R %d 1 -" % self.rng.randrange(4))
@@ -858,7 +877,7 @@ class Writer:
         """A line that would do something if it were read."""
         rng = self.rng
         return rng.choice((
-            "B 05", "B 04", "B 06", "B 15", "T 1", "T 30", "D", "V 0",
+            "B 05", "B 04", "B 06", "B 15", "T 1", "T 30", "D", "V 0", "K",
             "O 0 1 1 1 -", "O 1 0 2 3 0102", "R 0 2 -", "R 1 0 00",
             "L O 0", "L I 0", "L O 1", "L I 1", self.start_line(self.settings())))
 
@@ -912,6 +931,8 @@ class Writer:
             b"D ", b"D 0", b"d", b" D", b"D\r", b"DD", b"D -",
             b"V", b"V ", b"V 256", b"V -1", b"V O 0", b"V 0 0", b"v 0",
             b"V +0", b"V 00256", b"V 65536", b"V -", b"V I 0",
+            b"K ", b"K 0", b"K -", b"k", b"KK", b" K", b"K\r", b"K\t", b"K0",
+            b"K K", b"K  ", b"K\x00", b"KV 0",
             b"L", b"L O", b"L I", b"L 0", b"L X 0", b"L o 0", b"L i 0",
             b"L O 256", b"L I 256", b"L O 0 0", b"L OI 0", b"L  0", b"L 0 O",
             b"L O -", b"L O 0\r", b"L O  0",
@@ -1056,9 +1077,95 @@ class Writer:
             self.put("D")
             self.put_bytes(bytes([NAK]))
 
+    def in_vain(self):
+        """Several replies are waited for in vain, their T3 to end on one tick
+        or on ticks near each other; meanwhile the line is idle, receiving
+        with or without a request, or sending, so that reports start, are held
+        or wait."""
+        u, rng = self.unit, self.rng
+        if u.phase != IDLE or u.sending is not None:
+            self.far_step()
+            return
+        for i in range(4):
+            if u.own[i].state == ENDED and self.chance(0.8):
+                self.put("L O %d" % i)
+        if self.chance(0.5):
+            self.something_to_answer()
+        for _ in range(rng.choice((1, 2, 3, 4, 4))):
+            if all(p.state != FREE for p in u.own) or u.sending is not None:
+                break
+            head = "O %d 1 %d %d " % (rng.choice((0, 7, 65535)), self.stream(),
+                                      self.odd_function())
+            size = rng.choice((0, 0, 1, 245, 489))
+            self.put(head + self.hex(rng.randbytes(size)))
+            while u.phase == WAIT_EOT:
+                self.put_bytes(bytes([EOT]))
+                self.put("D")
+                self.put_bytes(bytes([ACK]))
+            if self.chance(0.3):
+                self.put("T %d" % rng.randint(1, 3))
+        waits = [u.t3 - p.timer + 1 for p in u.own if p.state == AWAITED]
+        if not waits or u.phase != IDLE:
+            return
+        # Shortly before the first ends, or so that T1 or T2 ends with it.
+        near = rng.choice((1, 1, 2, u.t1 + 1, u.t2 + 1, u.t2 + 1, u.t2))
+        self.put("T %d" % max(0, min(waits) - near))
+        what = rng.randrange(8)
+        if what == 0:
+            self.user_open(True)
+        elif what == 1:
+            self.user_ask()
+        elif what in (2, 3):
+            self.put_bytes(bytes([ENQ]))
+            if what == 3:
+                self.user_ask()
+        elif what == 4:
+            self.put_bytes(bytes([ENQ, rng.choice((9, 10, 10, 255))]))
+            if self.chance(0.3):
+                self.user_ask()
+        elif what == 5:
+            # A report is on its way when T3 runs out.
+            self.put_bytes(bytes([ENQ]) + pu.on_the_line(
+                self.misroute(self.primary(1))))
+        elif what == 6:
+            # A message is held, and a misrouted block ends the receive.
+            self.put_bytes(bytes([ENQ]))
+            if self.chance(0.6):
+                self.user_reply(True)
+            else:
+                self.user_ask()
+            if u.phase == WAIT_LENGTH:
+                self.put_bytes(pu.on_the_line(self.misroute(self.primary(1))))
+        if u.phase == WAIT_EOT and self.chance(0.4):
+            self.put_bytes(bytes([EOT]))
+            if self.chance(0.6):
+                self.put("D")
+        self.put("T %d" % near)
+        if self.chance(0.5):
+            self.put("T %d" % rng.randint(1, 3))
+        if self.chance(0.3) and any(p.state == ENDED for p in u.own):
+            # Released before its report leaves.
+            self.user_release(True)
+
+    def something_to_answer(self):
+        """A message of the far end that asks for a reply, of one block."""
+        if self.unit.phase == IDLE:
+            content = self.header(1, self.stream(), 1, 1, 1,
+                                  self.fresh_system()) + self.some_data()
+            self.sent = (self.sent + [content])[-4:]
+            self.put_bytes(bytes([ENQ]) + pu.on_the_line(content))
+
     def long_message(self):
         """One message is brought close to 4,096 bytes without a pause; the
         steps that follow decide how it ends."""
+        if (not self.opened() and self.unit.phase == IDLE
+                and self.mood_name == "reporting"):
+            awaited = [p for p in self.unit.own if p.state == AWAITED]
+            if awaited and self.chance(0.5):
+                content = self.replying(self.rng.choice(awaited), 0)
+            else:
+                content = self.primary(0)
+            self.put_bytes(bytes([ENQ]) + pu.on_the_line(content))
         opened = self.opened()
         if not opened or self.unit.phase != IDLE:
             self.far_step()
@@ -1080,7 +1187,19 @@ class Writer:
             content = self.continuing(place, self.rng.choice((0, 1)),
                                       self.rng.randbytes(size))
             self.sent = (self.sent + [content])[-4:]
-            self.put_bytes(bytes([ENQ]) + pu.on_the_line(content))
+            if self.unit.phase == IDLE and self.chance(0.3):
+                # A request, or a reply, is held when the message turns out
+                # too long.
+                if self.chance(0.5):
+                    self.something_to_answer()
+                self.put_bytes(bytes([ENQ]))
+                if self.chance(0.5):
+                    self.user_reply(True)
+                else:
+                    self.user_ask()
+                self.put_bytes(pu.on_the_line(content))
+            else:
+                self.put_bytes(bytes([ENQ]) + pu.on_the_line(content))
             self.look_at(place)
             if self.unit.phase == IDLE and self.chance(0.7):
                 if self.chance(0.5) or place.state != OPEN:
@@ -1103,6 +1222,7 @@ class Writer:
                           ("refused_start", self.refused_start),
                           ("wait", self.wait), ("patience", self.patience),
                           ("long_message", self.long_message),
+                          ("in_vain", self.in_vain),
                           ("user", self.user_step)):
             if roll < m[name]:
                 act()
@@ -1127,6 +1247,7 @@ class Writer:
             self.put("V %d" % i)
         for i in range(4):
             self.put("R %d 1 -" % i)
+        self.put("K")
 
     def steps(self, count):
         goal = len(self.lines) + count
@@ -1188,7 +1309,7 @@ def make_cycle(seed, make_unit=pu.Unit):
     writer = Writer(rng, make_unit)
     put = writer.put
     last = rng.choice((0, 65535, rng.randrange(65536)))
-    put("%s 1 %d 120 120 0 5 1 %d" % (rng.choice("HE"), rng.choice((1, 2)),
+    put("%s 1 %d 120 120 0 5 1 %d" % (rng.choice("HEE"), rng.choice((1, 2)),
                                       last))
     u = writer.unit
 
@@ -1202,11 +1323,27 @@ def make_cycle(seed, make_unit=pu.Unit):
         put("D")
         put(end)
 
+    def settle():
+        """Reports on their way or waiting are sent, one after the other."""
+        while u.sending is not None:
+            put("B 04")
+            put("D")
+            put("B 06")
+
+    def report(end="B 06"):
+        """Equipment: a misrouted block, and the report that takes a number."""
+        content = writer.misroute(writer.header(1, 1, 1, 1, 1, bytes(4)))
+        put("B " + (bytes([ENQ]) + pu.on_the_line(content)).hex().upper())
+        put("B 04")
+        put("D")
+        put(end)
+
     def answer(place, how):
         """Ends the waiting of an own place: reply, broken or no reply."""
         system = place.system
         if how == "late":
             put("T %d" % (u.t3 - place.timer + 1))
+            settle()
             return
         if how == "broken":
             content = writer.header(0, 1, 2, 0, 1, system)
@@ -1234,10 +1371,21 @@ def make_cycle(seed, make_unit=pu.Unit):
         put("D")
         put("B 15")
         put("L O 3")
-    stop = before(first, {0: 1, 1: 1, 2: 1, 3: 2, 4: 2, 5: 1, 6: 2, 7: 1}[variant])
+    ending = rng.choice(("answered", "declined", "other", "late"))
+    steps = {0: 1, 1: 1, 2: 1, 3: 2, 4: 2, 5: 1, 6: 2, 7: 1}[variant]
+    if not u.host:
+        # As many numbers go to reports of replies that do not come.
+        steps += {1: 1, 2: 2, 3: 1, 4: 1 if ending == "late" else 0}.get(
+            variant, 0)
+    stop = before(first, steps)
+    # At the equipment reports take some of the numbers, all or none.
+    reports = 0 if u.host else rng.choice((0.1, 0.5, 1, 1))
     while u.last != stop:
-        primary(0)
-        put("L O %d" % held)
+        if rng.random() < reports:
+            report()
+        else:
+            primary(0)
+            put("L O %d" % held)
 
     if variant == 0:
         # Three numbers in use in a row are passed over, the middle one in a
@@ -1257,11 +1405,12 @@ def make_cycle(seed, make_unit=pu.Unit):
         put("T %d" % (u.t3 - u.own[0].timer + 1 - (u.t2 + 1)))
         put("O 7 0 1 1 -")
         put("T %d" % (u.t2 + 1))
+        settle()
         release_all()
     elif variant == 4:
         # The latest by a reply, then a newer one by a send that fails: the
         # former may be used again.
-        answer(u.own[0], rng.choice(("answered", "declined", "other", "late")))
+        answer(u.own[0], ending)
         release_all()
         primary(1, "B 15")
         release_all()
@@ -1281,7 +1430,11 @@ def make_cycle(seed, make_unit=pu.Unit):
         put("L O 1")
     # What numbers come next, past the old ones.
     for _ in range(6):
-        primary(rng.choice((0, 1)), rng.choice(("B 06", "B 06", "B 15")))
+        end = rng.choice(("B 06", "B 06", "B 15"))
+        if rng.random() < (0 if u.host else 0.5):
+            report(end)
+        else:
+            primary(rng.choice((0, 1)), end)
         for i in range(4):
             put("V %d" % i)
             if rng.random() < 0.4:
@@ -1349,8 +1502,11 @@ class WatchedUnit(pu.Unit):
 
     def tick(self):
         before = [p.state for p in self.own + self.incoming]
-        phase = self.phase
+        phase, waiting = self.phase, len(self.waiting)
+        sending = self.sending
         result = super().tick()
+        if result[1] == b"\x15\x05" and sending is None:
+            COUNT["verdict 6 with a NAK on one tick"] += 1
         ended = 0
         for i, p in enumerate(self.own + self.incoming):
             if before[i] == AWAITED and p.state == ENDED:
@@ -1363,6 +1519,11 @@ class WatchedUnit(pu.Unit):
                 COUNT["T4 run-out, incoming"] += 1
         if ended > 1:
             COUNT["several verdicts on one tick"] += 1
+        if not self.host and sending and sending is not self.sending and any(
+                before[i] == AWAITED and p.state == ENDED
+                and p.verdict == pu.V_NO_REPLY for i, p in enumerate(self.own)):
+            COUNT["failure and verdict 6 on one tick, %s waiting"
+                  % ("some" if waiting else "none")] += 1
         if phase == DRAINING and ended:
             COUNT["T3 or T4 run-out while draining"] += 1
         COUNT["note %d" % result[2]] += 1
@@ -1373,23 +1534,72 @@ class WatchedUnit(pu.Unit):
         return super().drained()
 
     def retry(self):
-        out = super().retry()
-        COUNT["retry" if out else "retries used up"] += 1
-        if self.tries == 31:
+        tries = self.tries + 1
+        COUNT["retry" if tries <= self.rty else "retries used up"] += 1
+        if tries <= self.rty and self.sending.owner is None:
+            COUNT["retry of a report"] += 1
+        if tries == 31:
             COUNT["tries 31"] += 1
+        return super().retry()
+
+    def kind(self):
+        """Of the message that is being sent or held."""
+        owner = self.sending.owner
+        return ("report" if owner is None
+                else "own" if isinstance(owner, pu.OwnPlace) else "reply")
+
+    def report(self, function, header):
+        name = "S9F%d" % function
+        if self.host:
+            COUNT["host, no report: " + name] += 1
+        elif self.sending is None:
+            COUNT["report starts at its cause: %s, %s" % (name, self.phase)] += 1
+        else:
+            where = "receiving" if self.phase in RECEIVING else "sending"
+            COUNT["report waits: %s, %s %s" % (name, where, self.kind())] += 1
+        if function == 9 and header[5] > 1:
+            COUNT["S9F9 of several blocks"] += 1
+        out = super().report(function, header)
+        if self.waiting:
+            COUNT["reports waiting: %d" % len(self.waiting)] += 1
+        return out
+
+    def oldest_report(self):
+        if self.waiting:
+            COUNT["oldest report starts behind: " + self.ended] += 1
+            function, header = self.waiting[0]
+            if function == 9 and not any(p.last_header == header
+                                         for p in self.own if p.state != FREE):
+                COUNT["place released before its S9F9 starts"] += 1
+        return super().oldest_report()
+
+    def start_report(self, function, header):
+        last = self.last
+        out = super().start_report(function, header)
+        if self.last < last:
+            COUNT["number wrap by a report"] += 1
+        if self.last != last + 1 and not (last == 65535 and self.last == 1):
+            COUNT["number passed over by a report"] += 1
         return out
 
     def send_failed(self):
-        owner, block = self.sending.owner, self.sending.at
-        name = "own" if isinstance(owner, pu.OwnPlace) else "reply"
+        block, name = self.sending.at, self.kind()
+        self.ended = name + " failed"
         COUNT["send failed: " + name] += 1
         if block:
             COUNT["send failed at a later block: " + name] += 1
+            if self.waiting:
+                COUNT["failed at a later block with reports waiting"] += 1
         super().send_failed()
 
+    def block_acknowledged(self):
+        if self.waiting and self.sending.at + 1 < len(self.sending.blocks):
+            COUNT["reports waiting between two blocks"] += 1
+        return super().block_acknowledged()
+
     def message_sent(self):
-        owner = self.sending.owner
-        name = "own" if isinstance(owner, pu.OwnPlace) else "reply"
+        name = self.kind()
+        self.ended = name + " sent"
         COUNT["message sent: " + name] += 1
         COUNT["message sent in %d blocks" % len(self.sending.blocks)] += 1
         if hasattr(self.sending, "gave_way"):
@@ -1399,7 +1609,9 @@ class WatchedUnit(pu.Unit):
     def end_receive(self, answer):
         out = super().end_receive(answer)
         if len(out) > 1:
-            how = "gave way" if hasattr(self.sending, "gave_way") else "asked"
+            how = ("report" if self.sending.owner is None
+                   else "gave way" if hasattr(self.sending, "gave_way")
+                   else "asked")
             COUNT["held block (%s) sent behind %s"
                   % (how, "ACK" if answer == ACK else "NAK")] += 1
         return out
@@ -1417,7 +1629,12 @@ class WatchedUnit(pu.Unit):
         out = [p for p in self.own if p.state == PUT_OUT]
         early = [p for p in self.own
                  if p.state == SENDING and p.system == h.system]
+        to_report = (not self.host and self.is_ours(h) and h.stream == 9
+                     and h.system == bytes([0, 0, self.last >> 8, self.last & 255])
+                     and not any(p.system == h.system for p in self.own))
         note = super().judge(content)
+        if to_report and h.function % 2 == 0:
+            COUNT["reply to a report: %d" % note] += 1
         if out and what != "overtaking reply":
             COUNT["judged %d with a block held that was out" % note] += 1
         if early and note == 24:
@@ -1468,8 +1685,12 @@ class WatchedUnit(pu.Unit):
 
     def open(self, *args):
         last, phase = self.last, self.phase
+        reporting = self.sending is not None and self.sending.owner is None
         result = super().open(*args)
         COUNT["refusal %d: primary" % result[0]] += 1
+        if reporting:
+            COUNT["refusal %d with a report on its way: primary, %s"
+                  % (result[0], "held" if phase in RECEIVING else "sent")] += 1
         if result[0] == 0:
             COUNT["accepted primary: " + phase] += 1
             if self.last < last:
@@ -1480,8 +1701,12 @@ class WatchedUnit(pu.Unit):
 
     def reply(self, index, function, data):
         phase = self.phase
+        reporting = self.sending is not None and self.sending.owner is None
         result = super().reply(index, function, data)
         COUNT["refusal %d: reply" % result[0]] += 1
+        if reporting:
+            COUNT["refusal %d with a report on its way: reply, %s"
+                  % (result[0], "held" if phase in RECEIVING else "sent")] += 1
         if result[0] == 0:
             COUNT["accepted reply: " + phase] += 1
             if self.incoming[index].first.function == 255:
@@ -1536,7 +1761,21 @@ def expected():
     names += ["judged %d with a block held that was out" % n
               for n in range(21, 28)]
     names += ["held block (%s) sent behind %s" % (how, a)
-              for how in ("asked", "gave way") for a in ("ACK", "NAK")]
+              for how in ("asked", "gave way", "report") for a in ("ACK", "NAK")]
+    names += ["host, no report: S9F%d" % f for f in (1, 9, 11)]
+    names += ["report starts at its cause: S9F%d, %s" % (f, p)
+              for f, p in ((1, BODY), (11, BODY), (9, IDLE), (9, WAIT_LENGTH),
+                           (9, BODY), (9, SILENCE))]
+    names += ["report waits: S9F%d, receiving %s" % (f, k)
+              for f in (1, 9, 11) for k in ("own", "reply")]
+    names += ["report waits: S9F%d, receiving report" % f for f in (1, 9)]
+    names += ["report waits: S9F9, sending " + k
+              for k in ("own", "reply", "report")]
+    names += ["reports waiting: %d" % n for n in (1, 2, 3, 4, 5)]
+    names += ["oldest report starts behind: %s %s" % (k, how)
+              for k in ("own", "reply", "report") for how in ("sent", "failed")]
+    names += ["refusal 7 with a report on its way: %s, %s" % (k, how)
+              for k in ("primary", "reply") for how in ("held", "sent")]
     names += ["accepted primary: " + p for p in (IDLE, WAIT_LENGTH, BODY, SILENCE)]
     names += ["accepted reply: " + p for p in (IDLE, WAIT_LENGTH, BODY, SILENCE)]
     names += ["complete: reply", "complete: incoming",
@@ -1561,6 +1800,16 @@ def expected():
               "kept with number above 255", "kept with number 0",
               "number 0 with E = 0 is 24",
               "number passed over",
+              "printed K", "retry of a report", "S9F9 of several blocks",
+              "place released before its S9F9 starts",
+              "number wrap by a report", "number passed over by a report",
+              "reports waiting between two blocks",
+              "failed at a later block with reports waiting",
+              "verdict 6 with a NAK on one tick",
+              "failure and verdict 6 on one tick, none waiting",
+              "failure and verdict 6 on one tick, some waiting",
+              "reply to a report: 24", "send failed: report",
+              "message sent: report",
               "printed ?", "printed ? for a line of 1,025 bytes",
               "read a line of 1,024 bytes", "start accepted",
               "refused start while running"]
@@ -1571,17 +1820,21 @@ def coverage(how_many):
     COUNT.clear()
     total = 0
     for seed in range(1, how_many + 1):
-        if kind_of(seed) == "cycle" and seed != 125:
-            continue             # one of these long ones is enough
-        withdrawn = COUNT["withdrawn"]
+        if kind_of(seed) == "cycle" and seed not in (125, 375):
+            continue             # two of these long ones, one of each end
+        withdrawn, reports = COUNT["withdrawn"], COUNT["message sent: report"]
         lines, answers = script(seed, WatchedUnit)
         total += len(lines)
         if COUNT["withdrawn"] > withdrawn:
             COUNT["scripts with a block withdrawn"] += 1
+        if COUNT["message sent: report"] > reports:
+            COUNT["scripts with a report sent"] += 1
         for text, answer in zip(lines, answers):
             first = answer.split(" ")[0]
             if first == "V":
                 COUNT["printed V with " + answer.split(" ")[2]] += 1
+            elif first == "K":
+                COUNT["printed K"] += 1
             elif first == "?":
                 COUNT["printed ?"] += 1
                 if len(text) == 1025:

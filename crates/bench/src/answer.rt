@@ -196,6 +196,16 @@ fn command(link: Link, command: Command, bytes: &[u8], room: &mut [u8], out: &mu
             printed: verdict(link, place),
             count: 0,
         },
+        Command::Dropped => Shown {
+            bench: Bench {
+                started: true,
+                link,
+            },
+            printed: Printed::Dropped {
+                count: unit::dropped(link),
+            },
+            count: 0,
+        },
     }
 }
 
@@ -221,6 +231,7 @@ fn early(bench: Bench, command: Command) -> Shown
         Command::Ticks(_) => unreadable(bench),
         Command::Drained => unreadable(bench),
         Command::Verdict(_) => unreadable(bench),
+        Command::Dropped => unreadable(bench),
     }
 }
 

@@ -26,8 +26,6 @@ use Rattle.clerk.proofs.request.release_incoming.Reads as release-incom
 use Rattle.clerk.proofs.request.release_incoming.Kinds as release-incoming-kinds
 use Rattle.clerk.proofs.request.refusal_number.Reads as refusal-number-reads
 use Rattle.clerk.proofs.request.refusal_number.Kinds as refusal-number-kinds
-use Rattle.clerk.proofs.request.is_message.Reads as is-message-reads
-use Rattle.clerk.proofs.request.is_message.Kinds as is-message-kinds
 use Rattle.clerk.proofs.request.is_sending.Reads as is-sending-reads
 use Rattle.clerk.proofs.request.is_sending.Kinds as is-sending-kinds
 
@@ -63,9 +61,6 @@ release-incoming-determined κs a = (tt, λ x y s t p q. p ∙ sym q)
 
 pub refusal-number-determined : Determined 0 refusal-number-kinds.ps refusal-number-kinds.r refusal-number-reads.Asked refusal-number-reads.Post (λ κs r s. r)
 refusal-number-determined κs a = (tt, λ x y s t p q. p ∙ sym q)
-
-pub is-message-determined : Determined 0 is-message-kinds.ps is-message-kinds.r is-message-reads.Asked is-message-reads.Post (λ κs r s. r)
-is-message-determined κs a = (tt, λ x y s t p q. p ∙ sym q)
 
 pub is-sending-determined : Determined 0 is-sending-kinds.ps is-sending-kinds.r is-sending-reads.Asked is-sending-reads.Post (λ κs r s. r)
 is-sending-determined κs a = (tt, λ x y s t p q. p ∙ sym q)

@@ -3,7 +3,7 @@ ghost use mathlib.Core.Path.{_≡_};
 ghost use Prim.Native.Nat.{_≤_};
 ghost use lib.ListN.{length};
 ghost use Rattle.wire.specs.Message.{messageLimit};
-ghost use Rattle.exchange.specs.Request.{requesting, badFunction, badPrimary, claimedAt, dataLong, isSending, notReady, openFree, openOf, primaryHeader, refusalNumber, refusedBy, releaseIncoming, releaseOwn, replyAccepted, replyOf, replyReady, sendingBy};
+ghost use Rattle.exchange.specs.Request.{requesting, badFunction, badPrimary, claimedAt, dataLong, isSending, notReady, openFree, openOf, primaryHeader, refusalNumber, refusedBy, releaseIncoming, releaseOwn, replyAccepted, replyOf, replyReady};
 use desk::incoming_place;
 use desk::own_place;
 use desk::put_incoming;
@@ -59,18 +59,20 @@ fn bad_primary(primary: Primary) -> bool
     primary.function % 2 == 0
 }
 
-// "System bytes: the caller's 16-bit source ID, then the number." R = 1 means to the host.
-fn primary_header(primary: Primary, terms: Terms, number: u16) -> Header
-    ensures { λ r. ⌜ r ≡ primaryHeader terms primary number ⌝ }
+// The header of the last block of a primary with `length` data bytes, which its place keeps. "System bytes: the caller's 16-bit source ID,
+// then the number." R = 1 means to the host.
+fn primary_header(primary: Primary, terms: Terms, length: u16, number: u16) -> Header
+    ensures { λ r. ⌜ r ≡ primaryHeader terms primary length number ⌝ }
 {
+    let blocks = cut::blocks_in(length as usize);
     Header {
         r: !terms.host,
         device: terms.device,
         w: primary.w,
         stream: primary.stream,
         function: primary.function,
-        e: false,
-        number: 0,
+        e: true,
+        number: blocks as u16,
         system: primary.source as u32 * 65536 + number as u32,
     }
 }
@@ -95,29 +97,12 @@ fn bad_function(primary: Header, function: u8) -> bool
     function as u16 != primary.function as u16 + 1
 }
 
-// Whether there is a message that is being sent or held.
-pub fn is_message(sending: Sending) -> bool
-    ensures { λ r. ⌜ r ≡ sendingBy sending ⌝ }
-{
-    match sending {
-        Sending::Nothing => false,
-        Sending::Primary {
-            place: _,
-            length: _,
-        } => true,
-        Sending::Reply {
-            place: _,
-            function: _,
-            length: _,
-        } => true,
-    }
-}
-
+// Whether a message is being sent or held; a report is one.
 pub fn is_sending(exchange: Exchange) -> bool
     ensures { λ r. ⌜ r ≡ isSending exchange ⌝ }
 {
     let sending = exchange.sending;
-    is_message(sending)
+    desk::is_message(sending)
 }
 
 fn refused(exchange: Exchange, refusal: Refusal) -> Requested
@@ -141,7 +126,7 @@ fn claimed_at(
 {
     let before = exchange.own;
     let number = next_number(before, exchange.numbers.last, exchange.numbers.latest);
-    let header = primary_header(primary, terms, number).bytes();
+    let header = primary_header(primary, terms, length, number).bytes();
     let own = own_put(
         before,
         place,
@@ -154,12 +139,14 @@ fn claimed_at(
         latest: exchange.numbers.latest,
     };
     let sending = Sending::Primary { place, length };
+    let reports = exchange.reports;
     Exchange {
         own,
         incoming,
         saved,
         numbers,
         sending,
+        reports,
     }
 }
 

@@ -1,6 +1,7 @@
-// The message that is being sent: what it is, and how its sending ends.
+// The message that is being sent: what it is, and how its sending ends; a report that waits starts then (02, request 2).
 ghost use mathlib.Core.Path.{_≡_};
-ghost use Rattle.exchange.specs.Send.{endedOwn, endedReply, failedOf, outgoingOf, putOutOf, replyTo, sentOf};
+ghost use Rattle.exchange.specs.Send.{endedOwn, endedReply, endedReport, failedBy, failedOf, outgoingOf, putOutOf, replyTo, sentBy, sentOf};
+use desk::freed_in;
 use desk::got_verdict;
 use desk::incoming_place;
 use desk::no_flags;
@@ -8,6 +9,7 @@ use desk::own_place;
 use desk::put_incoming;
 use desk::put_own;
 use desk::verdict_flag;
+use desk::with_outbox;
 use desk::with_sending;
 use exchange::Changed;
 use exchange::Exchange;
@@ -54,10 +56,12 @@ pub fn outgoing(exchange: Exchange) -> Outgoing
             header: reply_to(incoming::primary(incoming_place(exchange, place)), function),
             length,
         },
+        Sending::Report { function, number } => Outgoing::Report { function, number },
     }
 }
 
-// The last block of the message being sent is put out. The reply to a primary may come from now on; a reply of ours awaits nothing.
+// The last block of the message being sent is put out. The reply to a primary may come from now on; a reply of ours, and a
+// report, await nothing.
 pub fn put_out(exchange: Exchange) -> Exchange
     ensures { λ r. ⌜ r ≡ putOutOf exchange ⌝ }
 {
@@ -73,6 +77,10 @@ pub fn put_out(exchange: Exchange) -> Exchange
             place: _,
             function: _,
             length: _,
+        } => exchange,
+        Sending::Report {
+            function: _,
+            number: _,
         } => exchange,
     }
 }
@@ -96,9 +104,34 @@ fn ended_reply(exchange: Exchange, place: usize, after: Incoming) -> Changed
     Changed { exchange, flags }
 }
 
-// The last block of the message being sent was acknowledged.
-pub fn sent(exchange: Exchange) -> Changed
-    ensures { λ r. ⌜ r ≡ sentOf exchange ⌝ }
+// A report is over: it has no place and no verdict.
+fn ended_report(exchange: Exchange) -> Changed
+    ensures { λ r. ⌜ r ≡ endedReport exchange ⌝ }
+{
+    let flags = no_flags();
+    let exchange = with_sending(exchange, Sending::Nothing);
+    Changed { exchange, flags }
+}
+
+// The oldest report that waits starts in the call that ends a message, `before`. Where none waits, as mostly, the state is not put together
+// anew.
+fn freeing(before: Sending, changed: Changed) -> Changed
+    ensures { λ r. ⌜ r ≡ Rattle.exchange.specs.Send.freeing before changed ⌝ }
+{
+    let exchange = changed.exchange;
+    let reports = exchange.reports;
+    if reports.count == 0 {
+        return changed;
+    }
+    let flags = changed.flags;
+    let outbox = freed_in(before, exchange);
+    let exchange = with_outbox(exchange, outbox);
+    Changed { exchange, flags }
+}
+
+// What the places make of an ACK of the message's last block.
+fn sent_by(exchange: Exchange) -> Changed
+    ensures { λ r. ⌜ r ≡ sentBy (exchange .sending) exchange ⌝ }
 {
     let sending = exchange.sending;
     match sending {
@@ -118,12 +151,24 @@ pub fn sent(exchange: Exchange) -> Changed
             place,
             incoming::sent(incoming_place(exchange, place)),
         ),
+        Sending::Report {
+            function: _,
+            number: _,
+        } => ended_report(exchange),
     }
 }
 
-// A block of the message being sent failed.
-pub fn failed(exchange: Exchange) -> Changed
-    ensures { λ r. ⌜ r ≡ failedOf exchange ⌝ }
+// The last block of the message being sent was acknowledged.
+pub fn sent(exchange: Exchange) -> Changed
+    ensures { λ r. ⌜ r ≡ sentOf exchange ⌝ }
+{
+    let before = exchange.sending;
+    freeing(before, sent_by(exchange))
+}
+
+// What the places make of a block that failed.
+fn failed_by(exchange: Exchange) -> Changed
+    ensures { λ r. ⌜ r ≡ failedBy (exchange .sending) exchange ⌝ }
 {
     let sending = exchange.sending;
     match sending {
@@ -143,5 +188,17 @@ pub fn failed(exchange: Exchange) -> Changed
             place,
             incoming::failed(incoming_place(exchange, place)),
         ),
+        Sending::Report {
+            function: _,
+            number: _,
+        } => ended_report(exchange),
     }
+}
+
+// A block of the message being sent failed.
+pub fn failed(exchange: Exchange) -> Changed
+    ensures { λ r. ⌜ r ≡ failedOf exchange ⌝ }
+{
+    let before = exchange.sending;
+    freeing(before, failed_by(exchange))
 }

@@ -37,6 +37,20 @@ use Rattle.desk.proofs.reading.own_reading.Reads as own-reading-reads
 use Rattle.desk.proofs.reading.own_reading.Kinds as own-reading-kinds
 use Rattle.desk.proofs.reading.incoming_reading.Reads as incoming-reading-reads
 use Rattle.desk.proofs.reading.incoming_reading.Kinds as incoming-reading-kinds
+use Rattle.desk.proofs.reporting.is_message.Reads as is-message-reads
+use Rattle.desk.proofs.reporting.is_message.Kinds as is-message-kinds
+use Rattle.desk.proofs.reporting.same_message.Reads as same-message-reads
+use Rattle.desk.proofs.reporting.same_message.Kinds as same-message-kinds
+use Rattle.desk.proofs.reporting.outbox.Reads as outbox-reads
+use Rattle.desk.proofs.reporting.outbox.Kinds as outbox-kinds
+use Rattle.desk.proofs.reporting.with_outbox.Reads as with-outbox-reads
+use Rattle.desk.proofs.reporting.with_outbox.Kinds as with-outbox-kinds
+use Rattle.desk.proofs.reporting.caused.Reads as caused-reads
+use Rattle.desk.proofs.reporting.caused.Kinds as caused-kinds
+use Rattle.desk.proofs.reporting.is_over.Reads as is-over-reads
+use Rattle.desk.proofs.reporting.is_over.Kinds as is-over-kinds
+use Rattle.desk.proofs.reporting.freed_in.Reads as freed-in-reads
+use Rattle.desk.proofs.reporting.freed_in.Kinds as freed-in-kinds
 
 pub fresh-determined : Determined 0 fresh-kinds.ps fresh-kinds.r fresh-reads.Asked fresh-reads.Post (λ κs r s. r)
 fresh-determined κs a = (tt, λ x y s t p q. p ∙ sym q)
@@ -91,3 +105,24 @@ own-reading-determined κs a = (tt, λ x y s t p q. p ∙ sym q)
 
 pub incoming-reading-determined : Determined 0 incoming-reading-kinds.ps incoming-reading-kinds.r incoming-reading-reads.Asked incoming-reading-reads.Post (λ κs r s. r)
 incoming-reading-determined κs a = (tt, λ x y s t p q. p ∙ sym q)
+
+pub is-message-determined : Determined 0 is-message-kinds.ps is-message-kinds.r is-message-reads.Asked is-message-reads.Post (λ κs r s. r)
+is-message-determined κs a = (tt, λ x y s t p q. p ∙ sym q)
+
+pub same-message-determined : Determined 0 same-message-kinds.ps same-message-kinds.r same-message-reads.Asked same-message-reads.Post (λ κs r s. r)
+same-message-determined κs a = (tt, λ x y s t p q. p ∙ sym q)
+
+pub outbox-determined : Determined 0 outbox-kinds.ps outbox-kinds.r outbox-reads.Asked outbox-reads.Post (λ κs r s. r)
+outbox-determined κs a = (tt, λ x y s t p q. p ∙ sym q)
+
+pub with-outbox-determined : Determined 0 with-outbox-kinds.ps with-outbox-kinds.r with-outbox-reads.Asked with-outbox-reads.Post (λ κs r s. r)
+with-outbox-determined κs a = (tt, λ x y s t p q. p ∙ sym q)
+
+pub caused-determined : Determined 0 caused-kinds.ps caused-kinds.r caused-reads.Asked caused-reads.Post (λ κs r s. r)
+caused-determined κs a = (tt, λ x y s t p q. p ∙ sym q)
+
+pub is-over-determined : Determined 0 is-over-kinds.ps is-over-kinds.r is-over-reads.Asked is-over-reads.Post (λ κs r s. r)
+is-over-determined κs a = (tt, λ x y s t p q. p ∙ sym q)
+
+pub freed-in-determined : Determined 0 freed-in-kinds.ps freed-in-kinds.r freed-in-reads.Asked freed-in-reads.Post (λ κs r s. r)
+freed-in-determined κs a = (tt, λ x y s t p q. p ∙ sym q)

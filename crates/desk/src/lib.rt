@@ -1,5 +1,5 @@
 // The state of the transactions (01, "Messages"): at its start, with one of its parts anew, in its ranges, and what a user reads of a
-// place; flags and notes. What each of these is, is said in crate `exchange`. Judging (crate `judging`) and the clerk (crate `clerk`)
+// place; flags and notes; reports. What each of these is, is said in crate `exchange`. Judging (crate `judging`) and the clerk (crate `clerk`)
 // change the state through these functions alone.
 //
 // No public function has a `requires`: each answers for every input, and its `ensures` is one equation with a definition of `exchange`.
@@ -7,6 +7,7 @@ mod flags;
 mod note;
 mod range;
 mod reading;
+mod reporting;
 mod state;
 
 pub use flags::incoming_flags;
@@ -17,6 +18,13 @@ pub use note::note_of;
 pub use range::in_range;
 pub use reading::incoming_reading;
 pub use reading::own_reading;
+pub use reporting::caused;
+pub use reporting::freed_in;
+pub use reporting::is_message;
+pub use reporting::is_over;
+pub use reporting::outbox;
+pub use reporting::same_message;
+pub use reporting::with_outbox;
 pub use state::fresh;
 pub use state::got_verdict;
 pub use state::incoming_place;

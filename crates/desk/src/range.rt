@@ -56,6 +56,10 @@ fn sending_in_range(sending: Sending) -> bool
             function: _,
             length,
         } => message_in_range(place, length),
+        Sending::Report {
+            function: _,
+            number: _,
+        } => true,
     }
 }
 
@@ -67,7 +71,10 @@ pub fn in_range(exchange: Exchange) -> bool
         let incoming = exchange.incoming;
         if incomings_in_range(incoming) {
             let sending = exchange.sending;
-            return sending_in_range(sending);
+            if sending_in_range(sending) {
+                let reports = exchange.reports;
+                return reports::in_range(reports);
+            }
         }
     }
     false

@@ -49,12 +49,14 @@ pub fn fresh(last: u16) -> Exchange
     };
     let numbers = Numbers { last, latest: 0 };
     let sending = Sending::Nothing;
+    let reports = reports::none();
     Exchange {
         own,
         incoming,
         saved,
         numbers,
         sending,
+        reports,
     }
 }
 
@@ -67,6 +69,7 @@ pub fn put_own(exchange: Exchange, place: usize, after: Own) -> Exchange
     let incoming = exchange.incoming;
     let saved = exchange.saved;
     let sending = exchange.sending;
+    let reports = exchange.reports;
     let numbers = Numbers {
         last: exchange.numbers.last,
         latest: latest_after(exchange.numbers.latest, own_at(before, place), after),
@@ -77,6 +80,7 @@ pub fn put_own(exchange: Exchange, place: usize, after: Own) -> Exchange
         saved,
         numbers,
         sending,
+        reports,
     }
 }
 
@@ -90,12 +94,14 @@ pub fn put_incoming(exchange: Exchange, place: usize, after: Incoming) -> Exchan
     let saved = exchange.saved;
     let sending = exchange.sending;
     let numbers = exchange.numbers;
+    let reports = exchange.reports;
     Exchange {
         own,
         incoming,
         saved,
         numbers,
         sending,
+        reports,
     }
 }
 
@@ -107,12 +113,14 @@ pub fn with_sending(exchange: Exchange, sending: Sending) -> Exchange
     let incoming = exchange.incoming;
     let saved = exchange.saved;
     let numbers = exchange.numbers;
+    let reports = exchange.reports;
     Exchange {
         own,
         incoming,
         saved,
         numbers,
         sending,
+        reports,
     }
 }
 
@@ -130,6 +138,10 @@ fn sent_from(sending: Sending, place: usize) -> bool
             place: _,
             function: _,
             length: _,
+        } => false,
+        Sending::Report {
+            function: _,
+            number: _,
         } => false,
     }
 }
@@ -161,12 +173,14 @@ pub fn with_saved(exchange: Exchange, header: [u8; 10]) -> Exchange
     let saved = Saved { any: true, header };
     let numbers = exchange.numbers;
     let sending = exchange.sending;
+    let reports = exchange.reports;
     Exchange {
         own,
         incoming,
         saved,
         numbers,
         sending,
+        reports,
     }
 }
 

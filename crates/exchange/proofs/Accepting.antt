@@ -92,8 +92,8 @@ request-spares c x r room =
 -- ---- a primary that is accepted
 
 -- the header has what was asked for
-as-asked : (c : Terms) (q : Primary) (number : ℕ) → AsAsked c q number (primaryHeader c q number)
-as-asked c q number = record { r = refl; device = refl; w = refl; stream = refl; function = refl; system = refl; number = refl; e = refl }
+as-asked : (c : Terms) (q : Primary) (size number : ℕ) → AsAsked c q size number (primaryHeader c q size number)
+as-asked c q size number = record { r = refl; device = refl; w = refl; stream = refl; function = refl; system = refl; number = refl; e = refl }
 
 -- a free place that is claimed
 claimed : (o : Own) (h : List ℕ) → o .stage ≡ own.Free → ownClaimed o h ≡ record { header = h; stage = own.Sending }
@@ -105,8 +105,8 @@ pub opened :
 unfolding claimedAt
 opened c x q d room four p w = record {
   lowest = w;
-  header = primaryHeader c q (numberGiven x);
-  as-asked = as-asked c q (numberGiven x);
+  header = primaryHeader c q (length d) (numberGiven x);
+  as-asked = as-asked c q (length d) (numberGiven x);
   place = place;
   sending = refl;
   outgoing = λ range. ap (λ (o : Own). outgoing.Message (ownPrimary o) (length d)) place ∙ ap (λ (h : Header). outgoing.Message h (length d)) (header-and-back _ range);
@@ -116,12 +116,13 @@ opened c x q d room four p w = record {
   incoming = refl;
   saved = refl;
   latest = refl;
+  reports = refl;
 }
   where
     bytes : List ℕ
-    bytes = headerBytes (primaryHeader c q (numberGiven x))
+    bytes = headerBytes (primaryHeader c q (length d) (numberGiven x))
 
-    place : ownPlace (openBy (At p) c x q d room .answer .exchange) p ≡ record { header = headerBytes (primaryHeader c q (numberGiven x)); stage = own.Sending }
+    place : ownPlace (openBy (At p) c x q d room .answer .exchange) p ≡ record { header = headerBytes (primaryHeader c q (length d) (numberGiven x)); stage = own.Sending }
     place = getD-set-same (x .own) p (ownClaimed (ownPlace x p) bytes) freshOwn (omega (arith, w .within, four .own)) ∙ claimed (ownPlace x p) bytes (w .so)
 
 pub accepted-opens : AcceptedOpens
@@ -176,6 +177,7 @@ reply-there x p f d room k = record {
   own = refl;
   saved = refl;
   numbers = refl;
+  reports = refl;
 }
   where
     place : incomingPlace (replyAccepted x p f d room .answer .exchange) p ≡ record { header = incomingPlace x p .header; stage = incoming.Replying (k .size) }
@@ -223,6 +225,7 @@ own-released x p t = record {
   saved = refl;
   numbers = λ k. record { last = x .numbers .last; latest = same-latest (x .numbers .latest) (ownPlace x p) (ownReleased (ownPlace x p)) t k };
   sending = refl;
+  reports = refl;
 }
 
 incoming-released : (x : Exchange) (p : ℕ) → notReady (incomingPlace x p) ≡ false → IncomingReleased x p p (putIncoming x p (incomingReleased (incomingPlace x p)))
@@ -235,6 +238,7 @@ incoming-released x p t = record {
   saved = refl;
   numbers = refl;
   sending = refl;
+  reports = refl;
 }
 
 pub accepted-releases : AcceptedReleases

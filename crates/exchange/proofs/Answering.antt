@@ -1,9 +1,9 @@
 -- Assembly of a cut reply is the reply (`specs/Assembly.antt`). Assumes nothing.
-use Prim.Native.Nat.{ℕ, suc, _+_, _%_, _≤_, _<_}
+use Prim.Native.Nat.{ℕ, zero, suc, _+_, _-_, _%_, _≤_, _<_}
 use mathlib.Core.Path.{_≡_, refl, sym, ap, subst, _∙_}
-use mathlib.Core.Bool.{Bool, true, false, cond}
+use mathlib.Core.Bool.{Bool, true, false, cond, false≢true}
 use mathlib.Core.List.{List}
-use mathlib.Core.Logic.{inl}
+use mathlib.Core.Logic.{inl, _≢_}
 use native.Mathlib.Omega.{arith}
 use lib.Dec.{eqb}
 use lib.ListN.{length}
@@ -15,6 +15,7 @@ use Rattle.header.specs.declared.header.Header.{Header}
 use Rattle.settings.specs.declared.terms.Terms.{Terms}
 use Rattle.cut.specs.Blocks.{blockCount, headerAt}
 use Rattle.cut.specs.Theorems.{joined}
+use Rattle.cut.proofs.Counts.{count-is-fewest}
 use Rattle.room.specs.Room.{keptIn}
 use Rattle.room.specs.declared.Message.the-variants as message
 use Rattle.place.specs.Message.{Routed}
@@ -26,21 +27,28 @@ use Rattle.place.specs.declared.Own.{Own}
 use Rattle.place.specs.declared.Verdict.{Verdict}
 use Rattle.place.specs.declared.Verdict.the-variants.{Sent, Answered, Declined, Other, Broken, NoReply, SendFailed}
 use Rattle.table.specs.Number.{numberOf}
-use Rattle.exchange.specs.Exchange.{ownPlace, sentBehind}
+use Rattle.table.specs.Own.{ownPut}
+use Rattle.table.specs.declared.Found.the-variants.{At}
+use Rattle.exchange.specs.Exchange.{ownPlace, sentFrom, sentBehind}
+use Rattle.exchange.specs.Reports.{outboxOf}
 use Rattle.exchange.specs.Judge.{judgeOf}
 use Rattle.exchange.specs.Reading.{ownReading}
-use Rattle.exchange.specs.Rules.{Fours, LowestAt, New, IsAwaited, OfReply, first, further, ReplyHere, bytesBefore, Comes, openFrom, Fits, ReplyGoes, kept}
+use Rattle.exchange.specs.Rules.{Fours, LowestAt, New, IsAwaited, OfReply, first, further, ReplyHere, noted, bytesBefore, Comes, CausesNone, Boxed, openFrom, Fits, ReplyGoes, kept}
 use Rattle.exchange.specs.Rules as rule
 use Rattle.exchange.specs.Releases as side
-use Rattle.exchange.specs.Assembly.{headerIn, dataIn, receiverOf, passes, received, ticksBefore, WithinT4, AwaitedFor, acked, out, expectsAt, Awaits, ReplyAssembled, IsReply, Earns, AssemblyOfReply, OurReplies}
-use Rattle.exchange.specs.declared.Numbers.{Numbers}
-use Rattle.exchange.specs.declared.Sending.{Sending}
+use Rattle.exchange.specs.Assembly.{headerIn, dataIn, receiverOf, passes, received, ticksBefore, WithinT4, NoneLate, AwaitedFor, acked, out, expectsAt, Awaits, ReplyAssembled, IsReply, Earns, AssemblyOfReply, OurReplies}
+use Rattle.exchange.specs.declared.Outbox.{Outbox}
 use Rattle.exchange.specs.declared.Exchange.{Exchange}
+use Rattle.exchange.proofs.Judging.{lowest-reply}
 use Rattle.exchange.proofs.Notes.{notes-exactly}
 use Rattle.exchange.proofs.Keeping.{bytes-before, reply-block}
+use Rattle.exchange.proofs.Boxes.{box-goes}
+use Rattle.exchange.proofs.Cases.{by-behind}
+use Rattle.exchange.proofs.Underway.{past-here}
 use Rattle.exchange.proofs.Blocks.{continues-at, said, one-more, fits-at, ends-at}
-use Rattle.exchange.proofs.Passing.{sending-stays, kept-on, counts, awaitedAt, repliedAt, awaited-on, replied-on, Expects, not-expected, Beside, incomings-beside, putBlock}
-use Rattle.exchange.proofs.Coming.{raised, KeptFor, comes-to, complete}
+use Rattle.exchange.proofs.Passing.{kept-on, counts, awaitedAt, repliedAt, awaited-on, replied-on, Expects, not-expected, Beside, itself, incomings-beside, putBlock}
+use Rattle.exchange.proofs.Timely.{InTime, fewer, none-late-then, quiet, none-late-here}
+use Rattle.exchange.proofs.Coming.{ticks-first, ticks-among, raised, KeptFor, comes-to, kept-causes-none, complete}
 
 -- the place of a primary with these header bytes
 abbrev place-at : List ℕ → OwnStage → Own
@@ -81,6 +89,47 @@ expects-taken : (o : Own) (b : Header) → OfReply o b → Expects (b .system) o
 expects-taken o b (first (rule.out e) system even starts) = (ap expectsAt e, sym system)
 expects-taken o b (first (rule.acked timer e) system even starts) = (ap expectsAt e, sym system)
 expects-taken o b (further a e k) = (ap expectsAt e, sym (k .system))
+
+-- ---- what is being sent
+
+-- it, with the last number given and the reports that wait, once a block of the reply in place p has come and no report started: its primary no
+-- more
+abbrev past : ℕ → Outbox → Outbox
+past p b = record { last = b .last; sending = sentBehind (b .sending) p; reports = b .reports }
+
+-- a second block changes it no more
+past-twice : (p : ℕ) (b : Outbox) → past p (past p b) ≡ past p b
+unfolding sentBehind
+past-twice p b = rw (past-here (b .sending) p)
+
+-- no report waits that would start then: "in the call that frees the line" (02, request 2)
+abbrev NoneStarts : ℕ → Outbox → Type 0
+NoneStarts p b = sentFrom (b .sending) p ≡ true → b .reports .count ≡ 0
+
+-- a block of the reply in place p that is kept
+box-behind : (c : Terms) (y : Exchange) (b src room : List ℕ) (p : ℕ) → Fours y → New c y b → LowestAt (λ j. OfReply (ownPlace y j) (headerOf b)) p
+    → noted (judgeOf c y b src room) ≡ 21 → NoneStarts p (outboxOf y) → outboxOf (judgeOf c y b src room .answer .exchange) ≡ past p (outboxOf y)
+box-behind c y b src room p fours new this note none =
+    by-behind (λ n. outboxOf j ≡ record { last = y .numbers .last; sending = n; reports = y .reports }) (y .sending) p
+    (λ e.
+    let w = goes .withdrawn (record { new = new; place = p; of-it = this; sent = e }) silent (none e) in
+    λ m. record { last = w .0 m; sending = w .1 m; reports = w .2 m })
+    (λ e.
+    let w = goes .stays (λ r. false≢true (sym e ∙ ap (sentFrom (y .sending)) (sym (one (r .place) (r .of-it))) ∙ r .sent)) silent in
+    λ m. record { last = w .0 m; sending = w .1 m; reports = w .2 m })
+  where
+    j : Exchange
+    j = judgeOf c y b src room .answer .exchange
+
+    goes : Boxed c y b (noted (judgeOf c y b src room)) j
+    goes = box-goes c y b src room fours
+
+    -- the lowest is one
+    one : (q : ℕ) → LowestAt (λ j. OfReply (ownPlace y j) (headerOf b)) q → q ≡ p
+    one q w = let e : At q ≡ At p = sym (lowest-reply y fours (headerOf b) q .1 w) ∙ lowest-reply y fours (headerOf b) p .1 this in cc
+
+    silent : CausesNone c b (noted (judgeOf c y b src room))
+    silent = kept-causes-none c b _ note
 
 -- ---- all blocks of a reply
 
@@ -138,16 +187,74 @@ module _ (c : Terms) (pauses : ℕ → ℕ) (x : Exchange) (four : Fours x) (p :
         takes = further _ refl (rw (w .primary, ← to .device, ← to .system) (continues-at h (length d) (suc k) (length (joined h d (suc k)))));
       })
 
+  -- T3 does not run out at this place before the first block, and does not run there behind it
+  first-in-time : (s : OwnStage) → AwaitedFor c (pauses 1) s → InTime c (pauses 1) (place-at ten s)
+  first-in-time _ (acked timer t3) m e = let f : timer ≡ m = cc in omega arith
+  first-in-time _ out m e = absurd (false≢true cc)
+
+  -- nor at another place, and no report waits that would start once the primary is sent no more: so none starts
+  record Silent : Type 0 where
+    none-starts : NoneStarts p (outboxOf x)
+    none-late : NoneLate c x (ticksBefore pauses (blockCount (length d))) (λ j. j ≢ p)
+
+  -- then what is being sent is what was, and from the first block on the primary no more
+  abbrev boxAfter : ℕ → Outbox
+  boxAfter zero = outboxOf x
+  boxAfter (suc k) = past p (outboxOf x)
+
+  past-on : (k : ℕ) → past p (boxAfter k) ≡ past p (outboxOf x)
+  past-on zero = refl
+  past-on (suc k) = past-twice p (outboxOf x)
+
+  none-starts-on : (k : ℕ) → NoneStarts p (outboxOf x) → NoneStarts p (boxAfter k)
+  none-starts-on zero s = s
+  none-starts-on (suc k) s = λ e. absurd (false≢true (sym (past-here (x .sending) p) ∙ e))
+
+  abbrev Box : ℕ → ℕ → Exchange → Type 0
+  Box k n y = Silent → outboxOf y ≡ boxAfter k
+
+  -- the ticks before the blocks up to k are among all
+  among-all : (k : ℕ) → k ≤ blockCount (length d) → ticksBefore pauses k ≤ ticksBefore pauses (blockCount (length d))
+  among-all k most =
+      let all : k + (blockCount (length d) - k) ≡ blockCount (length d) = omega arith in
+      subst (λ (j : ℕ). ticksBefore pauses k ≤ ticksBefore pauses j) all (ticks-among pauses k (blockCount (length d) - k))
+
+  -- before the first block
+  box-first : Box 0 (pauses 1) (passes c x (pauses 1))
+  box-first s =
+      let some = count-is-fewest (length d) in
+      let most : pauses 1 ≤ ticksBefore pauses (blockCount (length d)) = omega (arith, ticks-first pauses, among-all 1 (omega arith)) in
+      quiet c x (pauses 1)
+      (none-late-here c (pauses 1) p x x (itself side.own p x) (first-in-time (ownPlace x p .stage) (w .stage))
+      (fewer c x (pauses 1) (ticksBefore pauses (blockCount (length d))) most (s .none-late)))
+
+  -- and before a later one
+  box-later : (k n : ℕ) (y : Exchange) → suc k < blockCount (length d) → ticksBefore pauses (suc k) ≡ n → Beside side.own p (passes c x n) y
+      → ownPlace y p ≡ held k false (length (joined h d (suc k))) → Box (suc k) n y
+      → Box (suc k) (n + pauses (suc (suc k))) (passes c y (pauses (suc (suc k))))
+  unfolding ticksBefore
+  box-later k n y less e beside here box s =
+      let m : ℕ = pauses (suc (suc k)) in
+      let most : m + n ≤ ticksBefore pauses (blockCount (length d)) = omega (arith, among-all (suc (suc k)) less) in
+      let not-awaited : InTime c m (ownPlace y p) =
+      λ timer f. let g : Replying (opened k (length (joined h d (suc k)))) ≡ Awaiting timer = sym (ap (λ (o : Own). o .stage) here) ∙ f in absurd (false≢true cc) in
+      quiet c y m
+      (none-late-here c m p (passes c x n) y beside not-awaited
+      (none-late-then c x n m (fewer c x (m + n) _ most (s .none-late))))
+      ∙ box s
+
   -- so each block is kept
   judged : (k : ℕ) (t : Bool) (y : Exchange) (room : List ℕ) → k < blockCount (length d) → eqb (suc k) (blockCount (length d)) ≡ t
       → Fours y → New c y (headerIn h d (suc k)) → Beside side.own p (passes c x (ticksBefore pauses (suc k))) y → Before k (ownPlace y p)
+      → Box k (ticksBefore pauses (suc k)) y
       → KeptFor side.own y p (headerIn h d (suc k)) (held k t (length (joined h d (suc k)))) t
-      (keptIn room (message.Reply p) (length (joined h d k)) (dataIn h d (suc k))) (judgeOf c y (headerIn h d (suc k)) (dataIn h d (suc k)) room)
-  unfolding headerAt verdictOf sentBehind
-  judged k t y room less e fours new beside before = record {
-    note = notes-exactly c y b src room fours 21 .1 (kept new (inl there) (fit .has-data) (omega (arith, have, fit .fits)) (inl there));
-    numbers = numbers t;
+      (keptIn room (message.Reply p) (length (joined h d k)) (dataIn h d (suc k))) (Box (suc k) (ticksBefore pauses (suc k))) (judgeOf c y (headerIn h d (suc k)) (dataIn h d (suc k)) room)
+  unfolding headerAt verdictOf
+  judged k t y room less e fours new beside before box = record {
+    note = note;
+    latest = latest t;
     comes = comes t (ends-at h d i short (suc k) less ∙ e);
+    box = λ s. box-behind c y b src room p fours new this note (subst (NoneStarts p) (sym (box s)) (none-starts-on k (s .none-starts))) ∙ ap (past p) (box s) ∙ past-on k;
   }
     where
       b : List ℕ
@@ -189,22 +296,31 @@ module _ (c : Terms) (pauses : ℕ → ℕ) (x : Exchange) (four : Fours x) (p :
       given : verdictOf (ownPlace y p) (headerOf b) ≡ v
       given = (λ m. verdictOf (record { header = before .header m; stage = ownPlace y p .stage }) (says m)) ∙ earned ten g h v (w .primary) earns
 
-      numbers : Bool → Numbers
-      numbers t = record { last = y .numbers .last; latest = cond t (numberOf (ownPlace y p)) (y .numbers .latest) }
+      note : noted (judgeOf c y b src room) ≡ 21
+      note = notes-exactly c y b src room fours 21 .1 (kept new (inl there) (fit .has-data) (omega (arith, have, fit .fits)) (inl there))
+
+      latest : Bool → ℕ
+      latest t = cond t (numberOf (ownPlace y p)) (y .numbers .latest)
 
       comes : (t : Bool) → headerOf b .e ≡ t
-          → Comes (judgeOf c y b src room) (putBlock side.own y b p (held k t (length (joined h d (suc k)))) (numbers t)) (raised side.own p t)
+          → Comes (judgeOf c y b src room) (putBlock side.own y b p (held k t (length (joined h d (suc k)))) (latest t)) (raised side.own p t)
           (keptIn room (message.Reply p) (length (joined h d k)) src)
       comes true f =
-          comes-to (ap (λ (o : Own). putBlock side.own y b p o (numbers true)) (λ m. record { header = before .header m; stage = Done (given m) (replyOf (says m) (size m)) })) (goes .complete fit f)
+          comes-to (ap (ownPut (y .own) p) (λ m. record { header = before .header m; stage = Done (given m) (replyOf (says m) (size m)) })) refl refl refl (goes .complete fit f)
       comes false f =
-          comes-to (ap (λ (o : Own). putBlock side.own y b p o (numbers false)) (λ m. record { header = before .header m; stage = Replying (openFrom (says m) (size m)) })) (goes .more fit f)
+          comes-to (ap (ownPut (y .own) p) (λ m. record { header = before .header m; stage = Replying (openFrom (says m) (size m)) })) refl refl refl (goes .more fit f)
+
+  -- the last block is the first or a later one
+  box-last : boxAfter (blockCount (length d)) ≡ past p (outboxOf x)
+  box-last =
+      let some = count-is-fewest (length d) in
+      let e : blockCount (length d) ≡ suc (blockCount (length d) - 1) = omega arith in
+      ap boxAfter e
 
   assembled : (room : List ℕ) → length room ≡ 36864 → ReplyAssembled c pauses v x p g h d (received c pauses (receiverOf x room) h d (blockCount (length d)))
   unfolding ownReading sentBehind
   assembled room whole =
-      let r = complete side.own c pauses x four p (w .within) h d i q short (w .new) held Before (first-here (ownPlace x p .stage) refl (w .stage)) later-here judged room whole in
-      let sent = r .sending ∙ ap (λ (m : Sending). sentBehind m p) (sending-stays c x _) in
+      let r = complete side.own c pauses x four p (w .within) h d i q short (w .new) held Before (first-here (ownPlace x p .stage) refl (w .stage)) later-here Box box-first box-later judged room whole in
       record {
         notes = r .notes;
         flags = r .flags;
@@ -212,8 +328,8 @@ module _ (c : Terms) (pauses : ℕ → ℕ) (x : Exchange) (four : Fours x) (p :
         bytes = r .bytes;
         others = λ j ne. r .beside .others side.own j (λ e. ne);
         incomings = incomings-beside (r .beside);
-        sending = λ e. sent ∙ rw e;
-        withdrawn = λ e. sent ∙ rw e;
+        unreported = λ e n. r .box (record { none-starts = λ f. absurd (false≢true (sym e ∙ f)); none-late = n }) ∙ box-last ∙ rw e;
+        withdrawn = λ e none n. ap (λ (b : Outbox). b .sending) (r .box (record { none-starts = λ f. none; none-late = n }) ∙ box-last) ∙ rw e;
         saved = r .saved;
       }
 

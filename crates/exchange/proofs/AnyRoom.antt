@@ -17,11 +17,11 @@ use Rattle.table.specs.Incoming.{messageFor, openAlike, freeIncoming}
 use Rattle.table.specs.declared.Found.{Found}
 use Rattle.table.specs.declared.Found.the-variants.{At, Nowhere}
 use Rattle.exchange.specs.Exchange.{incomingPlace, savedNow}
-use Rattle.exchange.specs.Judge.{Judging, thrown, isMisrouted, isDuplicate, replyBlock, messageBlock, beginsAt, inFree, inPlace, takesPlace, primaryBy, primaryBlock, orPrimary, ofMessage, noReplyBlock, ofReply, newBlock, judgeOf}
+use Rattle.exchange.specs.Judge.{Judging, thrown, isMisrouted, isDuplicate, replyBlock, messageBlock, beginsAt, inFree, inPlace, takesPlace, primaryBy, primaryBlock, orPrimary, ofMessage, noReplyBlock, ofReply, newBlock, reporting, rulesOf, judgeOf}
 use Rattle.exchange.specs.Request.{Requesting, refused, badPrimary, badFunction, dataLong, isSending, notReady, openBy, openFree, openOf, replyAccepted, replyReady, replyOf, Request, answerOf}
 use Rattle.exchange.specs.Request as request
 use Rattle.exchange.specs.History as exchange
-use Rattle.exchange.specs.History.{Call, block, tick, put-out, acknowledged, failed, called, Joined, sees, Track, next, track}
+use Rattle.exchange.specs.History.{Call, block, tick, put-out, acknowledged, failed, called, Joined, joins, ifKept, sees, Track, next, track}
 use Rattle.exchange.specs.declared.Exchange.{Exchange}
 use Rattle.exchange.specs.declared.Judged.{Judged}
 use Rattle.exchange.specs.declared.Primary.{Primary}
@@ -66,12 +66,16 @@ module _ (h : Header) (d room other : List ℕ) where
   reply-alike (At p) x = refl
   reply-alike Nowhere x = message-alike (messageFor (x .incoming) h) x
 
-judge-alike : (h d room other : List ℕ) (c : Terms) (x : Exchange) → judgedIn (judgeOf c x h d room) ≡ judgedIn (judgeOf c x h d other)
-unfolding judgeOf newBlock thrown
-judge-alike h d room other c x =
+rules-alike : (h d room other : List ℕ) (c : Terms) (x : Exchange) → judgedIn (rulesOf c x h d room) ≡ judgedIn (rulesOf c x h d other)
+unfolding rulesOf newBlock thrown
+rules-alike h d room other c x =
     alike-if judgedIn (isMisrouted c (headerOf h)) _ _ _ _ refl
     (alike-if judgedIn (isDuplicate c x h) _ _ _ _ refl
     (reply-alike (headerOf h) d room other (replyFor (savedNow x h .own) (headerOf h)) (savedNow x h)))
+
+-- and so is what is reported of it
+judge-alike : (h d room other : List ℕ) (c : Terms) (x : Exchange) → judgedIn (judgeOf c x h d room) ≡ judgedIn (judgeOf c x h d other)
+judge-alike h d room other c x = ap (reporting c (x .sending) h) (rules-alike h d room other c x)
 
 -- ---- a request is answered alike
 
@@ -120,7 +124,7 @@ module _ (c : Terms) (x : Exchange) (room other : List ℕ) where
   called-alike (exchange.request r) = ap (λ (a : Requested). a .exchange) (request-alike c x r room other)
 
   sees-alike : (s : Joined) (k : Call) → sees c x room s k ≡ sees c x other s k
-  sees-alike s (block h d) = rw (judge-alike h d room other c x)
+  sees-alike s (block h d) = ap (λ (j : Judged). ifKept (j .note) s (joins x h s d)) (judge-alike h d room other c x)
   sees-alike s tick = refl
   sees-alike s put-out = refl
   sees-alike s acknowledged = refl

@@ -29,21 +29,23 @@ use Rattle.table.specs.Number.{nextNumber}
 use Rattle.table.proofs.Finding.{reply-lowest, message-lowest, open-alike-lowest, free-incoming-lowest, free-own-lowest}
 use Rattle.table.specs.declared.Found.the-variants.{At}
 use Rattle.exchange.specs.Exchange.{ownPlace, incomingPlace, putOwn, putIncoming, withSending, savedNow}
-use Rattle.exchange.specs.Tick.{tickOf}
-use Rattle.exchange.specs.Send.{putOutBy, endedOwn, endedReply, sentBy, failedBy}
-use Rattle.exchange.specs.Judge.{Judging, thrown, spoiltBy, replyBlock, messageBlock, beginsAt, judgeOf}
-use Rattle.exchange.specs.Request.{sendingBy, Requesting, refusedBy, refused, primaryHeader, claimedAt, replyAccepted, Request, reply, answerOf}
+use Rattle.exchange.specs.Tick.{passedOf, tickOf}
+use Rattle.exchange.specs.Send.{putOutBy, endedOwn, endedReply, endedReport, sentBy, freeing, failedBy}
+use Rattle.exchange.specs.Judge.{Judging, thrown, spoiltBy, replyBlock, messageBlock, beginsAt, rulesOf, judgeOf}
+use Rattle.exchange.specs.Request.{Requesting, refusedBy, refused, primaryHeader, claimedAt, replyAccepted, Request, reply, answerOf}
 use Rattle.exchange.specs.History.{Call, block, tick, put-out, acknowledged, failed, request, Joined, anew, ofNew, joins, ifKept, joinsAsked, Track, next, track, atStart}
 use Rattle.exchange.specs.Releases as side
-use Rattle.exchange.specs.Theorems.{Reached, StartsWith, hasReply, lengthSent, JoinedInAreas}
+use Rattle.exchange.specs.Theorems.{Reached, StartsWith, hasReply, lengthSent, fromCaller, JoinedInAreas}
+use Rattle.exchange.proofs.Unreported.{freeing-sends, judged-sends, ticked-sends}
 use Rattle.exchange.proofs.Cases.{Thrown, stray, no-place, too-long, empty, Takes, by-judge, by-request}
 use Rattle.exchange.proofs.Filling.{Fills, spares-same, spares-kept, fills-first, fits-area}
 use Rattle.exchange.proofs.Holding.{OwnHolds, IncomingHolds, SendHolds, own-ticked, own-put-out, own-sent, own-failed, own-released, own-claimed, incoming-ticked, incoming-answered, incoming-ended, incoming-released}
-use Rattle.exchange.proofs.Joining.{Good, all-free, any, every, saved-good, only, joined, put-sending, offered-replied, offered-kept, replied-good, reply-joined, message-joined}
+use Rattle.exchange.proofs.Joining.{Good, all-free, any, every, saved-good, boxed-good, only, joined, put-sending, offered-replied, offered-kept, replied-good, reply-joined, message-joined}
 use Rattle.exchange.specs.declared.Note.{Note}
 use Rattle.exchange.specs.declared.Sending.{Sending}
 use Rattle.exchange.specs.declared.Sending.the-variants as sending
 use Rattle.exchange.specs.declared.Exchange.{Exchange}
+use Rattle.exchange.specs.declared.Changed.{Changed}
 use Rattle.exchange.specs.declared.Primary.{Primary}
 
 -- ---- a block
@@ -98,9 +100,9 @@ module _ (c : Terms) (x : Exchange) (h d room : List ℕ) (s : Joined) (g : Good
   outcast _ too-long = saved-good x h room s g
   outcast _ empty = saved-good x h room s g
 
-  pub judge-joined : After (judgeOf c x h d room)
+  rules-joined : After (rulesOf c x h d room)
   unfolding thrown replyBlock messageBlock beginsAt savedNow
-  judge-joined =
+  rules-joined =
       let y = savedNow x h in
       let gy = saved-good x h room s g in
       let b = headerOf h in
@@ -120,17 +122,24 @@ module _ (c : Terms) (x : Exchange) (h d room : List ℕ) (s : Joined) (g : Good
       (joined y room s gy side.incoming p d _ (spares-kept room (message.Incoming p) 0 d (g .whole)) (begun-holds room p (g .whole) (w .0) b d (incomingPlace x p) (ap spoiltBy e ∙ u)))))
       (λ n t r m. outcast n t)
 
+  pub judge-joined : After (judgeOf c x h d room)
+  judge-joined =
+      let j = rulesOf c x h d room in
+      let out = ifKept (j .answer .note) s (joins x h s d) .outgoing in
+      boxed-good (j .answer .exchange) _ _ _ rules-joined
+      (judged-sends (λ z. SendHolds (j .room) z out) (λ w f n. tt) c (x .sending) h (j .answer) (rules-joined .sends))
+
 -- ---- time, a block of ours that is out, and the end of a send
 
 module _ (x : Exchange) (room : List ℕ) (s : Joined) (g : Good x room s) where
   tick-joined : (c : Terms) → Good (tickOf c x .exchange) room s
-  unfolding tickOf
+  unfolding passedOf
   tick-joined c =
       record {
         whole = g .whole;
         own = every (g .own) (ownTick c) refl (λ p o bs w. own-ticked room p bs c (o .header) (o .stage) w);
         incoming = every (g .incoming) (incomingTick c) refl (λ p i bs w. incoming-ticked room p bs c (i .header) (i .stage) w);
-        sends = g .sends;
+        sends = ticked-sends (λ z. SendHolds room z (s .outgoing)) (λ w f n. tt) c x (g .sends);
       }
 
   -- nothing is being sent
@@ -141,18 +150,25 @@ module _ (x : Exchange) (room : List ℕ) (s : Joined) (g : Good x room s) where
   put-out-joined sending.Nothing = g
   put-out-joined (sending.Primary p n) = let o = ownPlace x p in only x room s g side.own p _ (own-put-out room p (s .replies p) (o .header) (o .stage) (any (g .own) p))
   put-out-joined (sending.Reply p f n) = g
+  put-out-joined (sending.Report f n) = g
+
+  -- a report that waits starts
+  freed-joined : (y : Changed) → Good (y .exchange) room s → Good (freeing (x .sending) y .exchange) room s
+  freed-joined y w = boxed-good (y .exchange) _ room s w (freeing-sends (λ z. SendHolds room z (s .outgoing)) (λ w f n. tt) (x .sending) (y .exchange) (w .sends))
 
   sent-joined : (q : Sending) → Good (sentBy q x .exchange) room s
-  unfolding endedOwn endedReply
+  unfolding endedOwn endedReply endedReport
   sent-joined sending.Nothing = g
   sent-joined (sending.Primary p n) = let o = ownPlace x p in idle _ (only x room s g side.own p _ (own-sent room p (s .replies p) (o .header) (o .stage) (any (g .own) p)))
   sent-joined (sending.Reply p f n) = let i = incomingPlace x p in idle _ (only x room s g side.incoming p _ (incoming-ended room p (s .messages p) end.Sent (i .header) (i .stage) (any (g .incoming) p)))
+  sent-joined (sending.Report f n) = idle x g
 
   failed-joined : (q : Sending) → Good (failedBy q x .exchange) room s
-  unfolding endedOwn endedReply
+  unfolding endedOwn endedReply endedReport
   failed-joined sending.Nothing = g
   failed-joined (sending.Primary p n) = let o = ownPlace x p in idle _ (only x room s g side.own p _ (own-failed room p (s .replies p) (o .header) (o .stage) (any (g .own) p)))
   failed-joined (sending.Reply p f n) = let i = incomingPlace x p in idle _ (only x room s g side.incoming p _ (incoming-ended room p (s .messages p) end.Failed (i .header) (i .stage) (any (g .incoming) p)))
+  failed-joined (sending.Report f n) = idle x g
 
   -- ---- requests
 
@@ -175,8 +191,8 @@ module _ (x : Exchange) (room : List ℕ) (s : Joined) (g : Good x room s) where
     claimed c q p e =
         let w = free-own-lowest (x .own) (g .own .four) .at p .0 e in
         let o = ownPlace x p in
-        let new = ownClaimed o (headerBytes (primaryHeader c q (nextNumber (x .own) (x .numbers .last) (x .numbers .latest)))) in
-        let empty = own-claimed room p (o .header) (o .stage) (headerBytes (primaryHeader c q (nextNumber (x .own) (x .numbers .last) (x .numbers .latest)))) (w .1) in
+        let new = ownClaimed o (headerBytes (primaryHeader c q (length d) (nextNumber (x .own) (x .numbers .last) (x .numbers .latest)))) in
+        let empty = own-claimed room p (o .header) (o .stage) (headerBytes (primaryHeader c q (length d) (nextNumber (x .own) (x .numbers .last) (x .numbers .latest)))) (w .1) in
         let put = joined x room s g side.own p [] new (spares-same room (message.Reply p) (g .whole)) empty in
         let all = to-send (putOwn x p new) (record { replies = anew (s .replies) p []; messages = s .messages; outgoing = s .outgoing }) put (sending.Primary p (length d)) (λ after f. f) in
         record { whole = all .whole; own = all .own; incoming = all .incoming; sends = all .sends }
@@ -204,8 +220,8 @@ pub one-call : (c : Terms) (t : Track) (k : Call) → GoodTrack t → GoodTrack 
 one-call c t (block h d) g = judge-joined c (t .exchange) h d (t .room) (t .seen) g
 one-call c t tick g = tick-joined (t .exchange) (t .room) (t .seen) g c
 one-call c t put-out g = put-out-joined (t .exchange) (t .room) (t .seen) g (t .exchange .sending)
-one-call c t acknowledged g = sent-joined (t .exchange) (t .room) (t .seen) g (t .exchange .sending)
-one-call c t failed g = failed-joined (t .exchange) (t .room) (t .seen) g (t .exchange .sending)
+one-call c t acknowledged g = freed-joined (t .exchange) (t .room) (t .seen) g (sentBy (t .exchange .sending) (t .exchange)) (sent-joined (t .exchange) (t .room) (t .seen) g (t .exchange .sending))
+one-call c t failed g = freed-joined (t .exchange) (t .room) (t .seen) g (failedBy (t .exchange .sending) (t .exchange)) (failed-joined (t .exchange) (t .room) (t .seen) g (t .exchange .sending))
 one-call c t (request r) g = request-joined (t .exchange) (t .room) (t .seen) g c r
 
 all-calls : (c : Terms) (t : Track) (ks : List Call) → GoodTrack t → GoodTrack (track c t ks)
@@ -236,10 +252,11 @@ message-begins room p (arrival.Complete n) bs h e = h .begins
 message-begins room p (arrival.Replying n) bs h e = h .begins
 message-begins room p (arrival.Replied n z) bs h e = h .begins
 
-send-begins : (room : List ℕ) (q : Sending) (bs : List ℕ) → SendHolds room q bs → sendingBy q ≡ true → StartsWith room message.Send (lengthSent q) bs
+send-begins : (room : List ℕ) (q : Sending) (bs : List ℕ) → SendHolds room q bs → fromCaller q ≡ true → StartsWith room message.Send (lengthSent q) bs
 send-begins room sending.Nothing bs h e = absurd (false≢true e)
 send-begins room (sending.Primary p n) bs h e = h .begins
 send-begins room (sending.Reply p f n) bs h e = h .begins
+send-begins room (sending.Report f n) bs h e = absurd (false≢true e)
 
 pub joined-in-areas : JoinedInAreas
 joined-in-areas c t w =

@@ -2,14 +2,12 @@
 use Prim.Native.Nat.{ℕ, zero, suc, _+_, _%_, _≤_, _<_}
 use mathlib.Core.Path.{_≡_, refl, sym, ap, subst, _∙_}
 use mathlib.Core.Bool.{Bool, true, false, cond, false≢true}
-use mathlib.Core.List.{List}
+use mathlib.Core.List.{List, []}
 use mathlib.Core.Logic.{inl, inr, _≢_}
 use native.Mathlib.Omega.{arith}
 use lib.Dec.{eqb}
 use lib.ListN.{length}
-use borrow.Author.Tests.{eqb-true, eqb-false}
 use Rattle.wire.specs.Message.{messageLimit}
-use Rattle.wire.proofs.Choice.{either}
 use Rattle.header.specs.Header.{InRange, headerOf}
 use Rattle.header.specs.declared.header.Header.{Header}
 use Rattle.settings.specs.declared.terms.Terms.{Terms}
@@ -23,14 +21,15 @@ use Rattle.place.specs.Incoming.{openAt as isOpen, incomingLength}
 use Rattle.place.specs.declared.Arriving.{Arriving}
 use Rattle.place.specs.declared.IncomingStage.the-variants.{Free, Open, Complete}
 use Rattle.place.specs.declared.Incoming.{Incoming}
-use Rattle.table.specs.Incoming.{freeIncoming}
+use Rattle.table.specs.Incoming.{incomingPut, freeIncoming}
 use Rattle.table.specs.Theorems.{Alike}
 use Rattle.table.proofs.Finding.{free-incoming-lowest}
 use Rattle.exchange.specs.Flags.{incomingFlags}
 use Rattle.exchange.specs.Exchange.{ownPlace, incomingPlace}
+use Rattle.exchange.specs.Reports.{outboxOf}
 use Rattle.exchange.specs.Judge.{judgeOf}
 use Rattle.exchange.specs.Reading.{wanted, incomingReading}
-use Rattle.exchange.specs.Rules.{Fours, LowestAt, New, OfMessage, goes-on, ReplyHere, MessageHere, FreeAt, bytesBefore, Comes, incomingBehind, openFrom, begunWith, NewPrimary, Fits, MessageGoes, kept}
+use Rattle.exchange.specs.Rules.{Fours, LowestAt, New, OfMessage, goes-on, ReplyHere, MessageHere, FreeAt, noted, bytesBefore, Comes, incomingBehind, openFrom, begunWith, NewPrimary, Fits, MessageGoes, kept}
 use Rattle.exchange.specs.Releases as side
 use Rattle.exchange.specs.Assembly.{headerIn, dataIn, receiverOf, passes, received, ticksBefore, WithinT4, ReadyFor, Assembled, AssemblyOfCut}
 use Rattle.exchange.specs.declared.Exchange.{Exchange}
@@ -38,17 +37,15 @@ use Rattle.exchange.proofs.Judging as test
 use Rattle.exchange.proofs.Notes.{notes-exactly}
 use Rattle.exchange.proofs.Leaving.{place-taken}
 use Rattle.exchange.proofs.Keeping.{no-incoming-flag, bytes-before, message-block}
+use Rattle.exchange.proofs.Boxes.{box-goes}
 use Rattle.exchange.proofs.Finding.{lowest}
 use Rattle.exchange.proofs.Cases.{by-found}
 use Rattle.exchange.proofs.Runs.{four-places, sound-reached}
 use Rattle.exchange.proofs.Evens.{Even, even-taken, even-step, evens}
 use Rattle.exchange.proofs.Blocks.{same-header, continues-at, said, one-more, fits-at, ends-at}
-use Rattle.exchange.proofs.Passing.{sending-stays, fours-stay, kept-on, counts, openAt, open-on, free-on, not-alike, Beside, owns-beside}
-use Rattle.exchange.proofs.Coming.{ticks-first, raised, KeptFor, comes-to, complete}
-
--- whether place q is this one
-by-place : {A : Type 0} (q p : ℕ) → (q ≡ p → A) → (q ≢ p → A) → A
-by-place {A} q p here there = either (eqb q p) (λ t. A) (λ e. here (eqb-true q p e)) (λ e. there (eqb-false q p e))
+use Rattle.exchange.proofs.Passing.{fours-stay, passes-more, kept-on, counts, openAt, open-on, free-on, not-alike, by-place, Beside, owns-beside}
+use Rattle.exchange.proofs.Timely.{quiet, beyond, beyond-ticks}
+use Rattle.exchange.proofs.Coming.{ticks-first, raised, KeptFor, comes-to, kept-causes-none, complete}
 
 module _ (c : Terms) (pauses : ℕ → ℕ) (x : Exchange) (four : Fours x) (even : (q : ℕ) → q < 4 → Even (ownPlace x q))
     (h : Header) (d : List ℕ) (i : InRange h) (q : Routed c h) (odd : h .function % 2 ≡ 1) (short : length d ≤ messageLimit)
@@ -103,6 +100,10 @@ module _ (c : Terms) (pauses : ℕ → ℕ) (x : Exchange) (four : Fours x) (eve
   Before zero o = o .stage ≡ Free
   Before (suc k) o = (n : ℕ) × (o ≡ openAt c (headerAt h (length d) 1) (opened k (length (joined h d (suc k)))) n)
 
+  -- own places, numbers, what is being sent and the reports that wait are as n ticks alone leave them
+  abbrev Box : ℕ → ℕ → Exchange → Type 0
+  Box k n y = beyond y ≡ beyond (passes c x n)
+
   -- the flag of a place whose message is complete
   flagged : (p : ℕ) (t : Bool) → incomingFlags p t false ≡ raised side.incoming p t
   flagged p true = refl
@@ -116,10 +117,11 @@ module _ (c : Terms) (pauses : ℕ → ℕ) (x : Exchange) (four : Fours x) (eve
     -- the first block takes the place
     first-kept : (t : Bool) (y : Exchange) (room : List ℕ) → 0 < blockCount (length d) → eqb 1 (blockCount (length d)) ≡ t
         → Fours y → New c y (headerIn h d 1) → Beside side.incoming p (passes c x (ticksBefore pauses 1)) y → incomingPlace y p .stage ≡ Free
+        → Box 0 (ticksBefore pauses 1) y
         → KeptFor side.incoming y p (headerIn h d 1) (held 0 t (length (joined h d 1))) t (keptIn room (message.Incoming p) (length (joined h d 0)) (dataIn h d 1))
-        (judgeOf c y (headerIn h d 1) (dataIn h d 1) room)
+        (Box 1 (ticksBefore pauses 1)) (judgeOf c y (headerIn h d 1) (dataIn h d 1) room)
     unfolding headerAt joined
-    first-kept t y room some e fours new beside free =
+    first-kept t y room some e fours new beside free box =
         let b : List ℕ = headerIn h d 1 in
         let src : List ℕ = dataIn h d 1 in
         let g : Header = headerOf b in
@@ -148,33 +150,37 @@ module _ (c : Terms) (pauses : ℕ → ℕ) (x : Exchange) (four : Fours x) (eve
         }) in
         let ends : g .e ≡ t = ends-at h d i short 1 some ∙ e in
         let size : length src ≡ length (joined h d 1) = omega (arith, one-more h d 0) in
-        subst (KeptFor side.incoming y p b (held 0 t (length (joined h d 1))) t (keptIn room (message.Incoming p) 0 src)) (sym judges)
+        subst (KeptFor side.incoming y p b (held 0 t (length (joined h d 1))) t (keptIn room (message.Incoming p) 0 src) (Box 1 (ticksBefore pauses 1))) (sym judges)
         (record {
           note = refl;
-          numbers = y .numbers;
+          latest = y .numbers .latest;
           comes = record {
-            state =
-                ap (incomingBehind y b p)
+            own = refl;
+            incoming =
+                ap (incomingPut (y .incoming) p)
                 (ap (λ (a : Header). begunWith a (length src)) says
                 ∙ (λ m. record { header = headerAt h (length d) 1; stage = cond (e m) (Complete (size m)) (Open (opened 0 (size m))) }));
+            saved = refl;
+            latest = refl;
             flags = ap (λ (u : Bool). incomingFlags p u false) ends ∙ flagged p t;
             bytes = refl;
           };
+          box = box;
         })
 
     -- a later one continues the message
     next-kept : (k : ℕ) (t : Bool) (y : Exchange) (room : List ℕ) → suc k < blockCount (length d) → eqb (suc (suc k)) (blockCount (length d)) ≡ t
         → Fours y → New c y (headerIn h d (suc (suc k))) → Beside side.incoming p (passes c x (ticksBefore pauses (suc (suc k)))) y → Before (suc k) (incomingPlace y p)
+        → Box (suc k) (ticksBefore pauses (suc (suc k))) y
         → KeptFor side.incoming y p (headerIn h d (suc (suc k))) (held (suc k) t (length (joined h d (suc (suc k))))) t
         (keptIn room (message.Incoming p) (length (joined h d (suc k))) (dataIn h d (suc (suc k))))
-        (judgeOf c y (headerIn h d (suc (suc k))) (dataIn h d (suc (suc k))) room)
+        (Box (suc (suc k)) (ticksBefore pauses (suc (suc k)))) (judgeOf c y (headerIn h d (suc (suc k))) (dataIn h d (suc (suc k))) room)
     unfolding headerAt
-    next-kept k t y room less e fours new beside before = record {
-      note =
-          notes-exactly c y b src room fours 21 .1
-          (kept new (inr (inl there)) (fit .has-data) (omega (arith, have, fit .fits)) (inr (inl there)));
-      numbers = y .numbers;
-      comes = comes t (ends-at h d i short (suc (suc k)) less ∙ e);
+    next-kept k t y room less e fours new beside before box = record {
+      note = note;
+      latest = y .numbers .latest;
+      comes = comes t ends;
+      box = stays ∙ box;
     }
       where
         b : List ℕ
@@ -215,18 +221,43 @@ module _ (c : Terms) (pauses : ℕ → ℕ) (x : Exchange) (four : Fours x) (eve
         size : length (joined h d (suc k)) + length src ≡ length (joined h d (suc (suc k)))
         size = sym (one-more h d (suc k))
 
+        note : noted (judgeOf c y b src room) ≡ 21
+        note =
+            notes-exactly c y b src room fours 21 .1
+            (kept new (inr (inl there)) (fit .has-data) (omega (arith, have, fit .fits)) (inr (inl there)))
+
         comes : (t : Bool) → headerOf b .e ≡ t
             → Comes (judgeOf c y b src room) (incomingBehind y b p (held (suc k) t (length (joined h d (suc (suc k)))))) (raised side.incoming p t)
             (keptIn room (message.Incoming p) (length (joined h d (suc k))) src)
         comes true f =
-            comes-to (ap (incomingBehind y b p) (λ m. record { header = before .1 m .header; stage = Complete (size m) })) (goes .complete fit f)
+            comes-to refl (ap (incomingPut (y .incoming) p) (λ m. record { header = before .1 m .header; stage = Complete (size m) })) refl refl (goes .complete fit f)
         comes false f =
-            comes-to (ap (incomingBehind y b p) (λ m. record { header = before .1 m .header; stage = Open (openFrom (says m) (size m)) })) (goes .more fit f)
+            comes-to refl (ap (incomingPut (y .incoming) p) (λ m. record { header = before .1 m .header; stage = Open (openFrom (says m) (size m)) })) refl refl (goes .more fit f)
+
+        ends : headerOf b .e ≡ t
+        ends = ends-at h d i short (suc (suc k)) less ∙ e
+
+        -- it is of no reply, and nothing is reported of it
+        stays : beyond (judgeOf c y b src room .answer .exchange) ≡ beyond y
+        stays =
+            let w = comes t ends in
+            let s =
+            box-goes c y b src room fours .stays (λ r. none (record { place = r .place; within = r .of-it .within; so = r .of-it .so }))
+            (kept-causes-none c b _ note) in
+            λ m. record {
+              own = w .own m;
+              incoming = [];
+              saved = record { any = false; header = [] };
+              numbers = record { last = s .0 m; latest = w .latest m };
+              sending = s .1 m;
+              reports = s .2 m;
+            }
 
     judged : (k : ℕ) (t : Bool) (y : Exchange) (room : List ℕ) → k < blockCount (length d) → eqb (suc k) (blockCount (length d)) ≡ t
         → Fours y → New c y (headerIn h d (suc k)) → Beside side.incoming p (passes c x (ticksBefore pauses (suc k))) y → Before k (incomingPlace y p)
+        → Box k (ticksBefore pauses (suc k)) y
         → KeptFor side.incoming y p (headerIn h d (suc k)) (held k t (length (joined h d (suc k)))) t
-        (keptIn room (message.Incoming p) (length (joined h d k)) (dataIn h d (suc k))) (judgeOf c y (headerIn h d (suc k)) (dataIn h d (suc k)) room)
+        (keptIn room (message.Incoming p) (length (joined h d k)) (dataIn h d (suc k))) (Box (suc k) (ticksBefore pauses (suc k))) (judgeOf c y (headerIn h d (suc k)) (dataIn h d (suc k)) room)
     judged zero = first-kept
     judged (suc k) = next-kept k
 
@@ -239,11 +270,19 @@ module _ (c : Terms) (pauses : ℕ → ℕ) (x : Exchange) (four : Fours x) (eve
         let m : 0 + n ≤ c .t4 .0 = omega (arith, t4 (suc (suc k)) (omega arith) less) in
         (0 + n, counts side.incoming c y p (openAt c (headerAt h (length d) 1) a) (c .t4 .0) (open-on c (headerAt h (length d) 1) a) 0 e n m)
 
+    -- the ticks leave the same of the same
+    box-later : (k n : ℕ) (y : Exchange) → suc k < blockCount (length d) → ticksBefore pauses (suc k) ≡ n → Beside side.incoming p (passes c x n) y
+        → incomingPlace y p ≡ held k false (length (joined h d (suc k))) → Box (suc k) n y
+        → Box (suc k) (n + pauses (suc (suc k))) (passes c y (pauses (suc (suc k))))
+    box-later k n y less e beside here box =
+        beyond-ticks c (passes c x n) y box (pauses (suc (suc k))) ∙ ap beyond (passes-more c x n (pauses (suc (suc k))))
+
     assembled : (room : List ℕ) → length room ≡ 36864 → Assembled c pauses x h d (received c pauses (receiverOf x room) h d (blockCount (length d)))
     unfolding incomingReading wanted headerAt
     assembled room whole =
         let free : FreeAt (passes c x (pauses 1)) p = subst (λ (n : ℕ). FreeAt (passes c x n) p) (ticks-first pauses) (low .so) in
-        let w = complete side.incoming c pauses x four p (low .within) h d i q short (takes .new) held Before free later judged room whole in
+        let w = complete side.incoming c pauses x four p (low .within) h d i q short (takes .new) held Before free later Box refl box-later judged room whole in
+        let outbox = ap outboxOf (w .box) in
         record {
           place = p;
           within = low .within;
@@ -256,7 +295,8 @@ module _ (c : Terms) (pauses : ℕ → ℕ) (x : Exchange) (four : Fours x) (eve
           bytes = w .bytes;
           others = λ j ne. w .beside .others side.incoming j (λ e. ne);
           owns = owns-beside (w .beside);
-          sending = w .sending ∙ sending-stays c x _;
+          outbox = outbox;
+          unreported = λ n. outbox ∙ quiet c x _ n;
           saved = w .saved;
         }
 

@@ -18,7 +18,7 @@ use Rattle.table.specs.Incoming.{freeIncoming, messageFor, openAlike}
 use Rattle.table.specs.declared.Found.{Found}
 use Rattle.table.specs.declared.Found.the-variants.{At, Nowhere}
 use Rattle.exchange.specs.Exchange.{ownPlace, incomingPlace, putOwn, putIncoming, sentFrom, sentBehind, savedNow}
-use Rattle.exchange.specs.Judge.{Judging, thrown, isMisrouted, isDuplicate, lastBy, spoiltBy, replyBlock, messageBlock, beginsAt, inFree, inPlace, takesPlace, primaryBy, primaryBlock, orPrimary, ofMessage, noReplyBlock, ofReply, newBlock, judgeOf}
+use Rattle.exchange.specs.Judge.{Judging, thrown, isMisrouted, isDuplicate, lastBy, spoiltBy, replyBlock, messageBlock, beginsAt, inFree, inPlace, takesPlace, primaryBy, primaryBlock, orPrimary, ofMessage, noReplyBlock, ofReply, newBlock, rulesOf}
 use Rattle.exchange.specs.Request.{Requesting, requesting, badPrimary, badFunction, dataLong, isSending, notReady, refused, openBy, openFree, openOf, replyAccepted, replyReady, replyOf, releaseOwn, releaseIncoming, Request, answerOf}
 use Rattle.exchange.specs.Request as request
 use Rattle.exchange.specs.declared.Note.{Note}
@@ -144,8 +144,8 @@ module _ (c : Terms) (x : Exchange) (h d room : List ℕ) (J : Judging → Type 
   pub by-judge :
       (isMisrouted c (headerOf h) ≡ true → J (thrown x Misrouted room))
       → (isMisrouted c (headerOf h) ≡ false → isDuplicate c x h ≡ true → J (thrown x Duplicate room))
-      → OfReply → OfMessage → OfPrimary → Outcast → J (judgeOf c x h d room)
-  unfolding judgeOf
+      → OfReply → OfMessage → OfPrimary → Outcast → J (rulesOf c x h d room)
+  unfolding rulesOf
   by-judge misrouted duplicate reply message primary outcast =
       chosen J (isMisrouted c (headerOf h)) _ _ misrouted
       (λ q. chosen J (isDuplicate c x h) _ _ (λ u. duplicate q u) (λ u. new reply message primary outcast (q, u)))

@@ -57,11 +57,12 @@ abbrev pub area : Side → ℕ → Message
 area side.own p = message.Reply p
 area side.incoming p = message.Incoming p
 
--- of the message being sent
+-- of the message being sent: nothing of a report lies there
 abbrev pub SendHolds : List ℕ → Sending → List ℕ → Type 0
 SendHolds room sending.Nothing bs = Unit {0}
 SendHolds room (sending.Primary p n) bs = Fills room message.Send n bs
 SendHolds room (sending.Reply p f n) bs = Fills room message.Send n bs
+SendHolds room (sending.Report f n) bs = Unit {0}
 
 -- ---- a write elsewhere
 
@@ -89,6 +90,7 @@ module _ (room after : List ℕ) (m : Message) (s : Spares room after m) where
   send-spared ne sending.Nothing bs h = tt
   send-spared ne (sending.Primary p n) bs h = s .others message.Send n bs ne (omega arith) h
   send-spared ne (sending.Reply p f n) bs h = s .others message.Send n bs ne (omega arith) h
+  send-spared ne (sending.Report f n) bs h = tt
 
 -- ---- events at an own place
 

@@ -20,6 +20,7 @@ use Rattle.place.specs.declared.Own.{Own}
 use Rattle.place.specs.declared.Incoming.{Incoming}
 use Rattle.exchange.specs.Note.{noteBy}
 use Rattle.exchange.specs.Exchange.{ownPlace, incomingPlace, putOwn, putIncoming, withSending, putReplied, savedNow}
+use Rattle.exchange.specs.Reports.{withOutbox}
 use Rattle.exchange.specs.Judge.{keepBy}
 use Rattle.exchange.specs.History.{Joined, anew, ifKept}
 use Rattle.exchange.specs.Releases.{Side}
@@ -30,6 +31,7 @@ use Rattle.exchange.proofs.Sides.{Place, fresh}
 use Rattle.exchange.proofs.Filling.{Spares, spares-same, spares-kept, fills-more}
 use Rattle.exchange.proofs.Holding.{Holds, area, SendHolds, spared, send-spared, own-has, incoming-has}
 use Rattle.exchange.specs.declared.Sending.{Sending}
+use Rattle.exchange.specs.declared.Outbox.{Outbox}
 use Rattle.exchange.specs.declared.Exchange.{Exchange}
 
 -- ---- one side
@@ -108,6 +110,10 @@ apart m o ne e = ne (ap kind e)
 pub saved-good : (x : Exchange) (h room : List ℕ) (s : Joined) → Good x room s → Good (savedNow x h) room s
 unfolding savedNow
 saved-good x h room s g = record { whole = g .whole; own = g .own; incoming = g .incoming; sends = g .sends }
+
+-- a report is due, or starts: nothing of it lies in the room
+pub boxed-good : (y : Exchange) (b : Outbox) (room : List ℕ) (s : Joined) → Good y room s → SendHolds room (b .sending) (s .outgoing) → Good (withOutbox y b) room s
+boxed-good y b room s g w = record { whole = g .whole; own = g .own; incoming = g .incoming; sends = w }
 
 -- a place is put anew; of these places f is joined
 abbrev pub putIn : (z : Side) → Exchange → ℕ → Place z → Exchange

@@ -9,6 +9,7 @@ use lib.ListN.{length}
 use Rattle.wire.proofs.Choice.{chosen}
 use Rattle.header.specs.Header.{headerOf}
 use Rattle.header.specs.declared.header.Header.{Header}
+use Rattle.settings.specs.declared.terms.Terms.{Terms}
 use Rattle.place.specs.Fate.{beginsPrimary, fateOf}
 use Rattle.place.specs.Own.{stageAt, ended, standingAt, givenBy, ownHasVerdict, ownKept, ownTakes, repliedBy, replied, ownOffered}
 use Rattle.place.specs.Incoming.{incomingLength, incomingTakes, keptBy, goesOn, incomingOffered}
@@ -24,13 +25,15 @@ use Rattle.table.specs.declared.Found.{Found}
 use Rattle.table.specs.declared.Found.the-variants.{At, Nowhere}
 use Rattle.exchange.specs.Flags.{noMarks, markAt, noFlags, verdictFlag, incomingFlags}
 use Rattle.exchange.specs.Exchange.{ownPlace, incomingPlace, gotVerdict, latestAfter, putOwn, putIncoming, withSending, sentBehind, putReplied, savedNow}
-use Rattle.exchange.specs.Judge.{judging, thrown, repliedAs, replyBlock, continuedAs, messageBlock, primaryBlock, orPrimary, ofMessage, noReplyBlock, ofReply, newBlock, judgeOf}
+use Rattle.exchange.specs.Judge.{Judging, judging, thrown, repliedAs, replyBlock, continuedAs, messageBlock, primaryBlock, orPrimary, ofMessage, noReplyBlock, ofReply, newBlock, rulesOf}
 use Rattle.exchange.specs.Rules.{out, acked, OfReply, first, further, replyBytes, messageBytes, bytesBefore, BytesBefore, Comes, onlySaved, Untouched, ownBehind, Spoils, ReplyGoes, ReplyBlock, MessageGoes, MessageBlock, NoPlaceTaken}
 use Rattle.exchange.specs.declared.Note.{Note}
 use Rattle.exchange.specs.declared.Note.the-variants.{Kept}
+use Rattle.exchange.specs.declared.Flags.{Flags}
+use Rattle.exchange.specs.declared.Sending.{Sending}
 use Rattle.exchange.specs.declared.Exchange.{Exchange}
 use Rattle.exchange.proofs.Judging as test
-use Rattle.exchange.proofs.Leaving.{passes, replied-there}
+use Rattle.exchange.proofs.Leaving.{passes, replied-there, whole, comes-whole}
 use Rattle.exchange.proofs.Outcomes.{fate-kept}
 
 -- ---- what is kept before a block
@@ -61,6 +64,10 @@ no-verdict-flag p = λ k. record { verdicts = no-mark p k; completed = noMarks; 
 
 pub no-incoming-flag : (p : ℕ) → incomingFlags p false false ≡ noFlags
 no-incoming-flag p = λ k. record { verdicts = noMarks; completed = no-mark p k; dropped = no-mark p k }
+
+-- what judging comes to, with its flags told otherwise
+raises : (j : Judging) (y : Exchange) (raised told : Flags) (left : List ℕ) → raised ≡ told → Comes j y raised left → Comes j y told left
+raises j y raised told left e w = subst (λ (f : Flags). Comes j y f left) e w
 
 -- the fate of a block that spoils its message
 spoils : (b : Header) (have : ℕ) (d : List ℕ) → Spoils b have d → (fateOf b have (length d) ≡ fate.Empty) ⊎ (fateOf b have (length d) ≡ fate.TooLong)
@@ -95,7 +102,10 @@ unfolding putReplied withSending putOwn sentBehind savedNow latestAfter numberOf
 behind x h left p s n v =
     let got = now-given (ownPlace x p) (stageAt (ownPlace x p) s) v in
     record {
-      state = ap (λ (g : Bool). ownBehind x h p s (cond g (numberOf (ownPlace x p)) (x .numbers .latest))) got;
+      own = refl;
+      incoming = refl;
+      saved = refl;
+      latest = ap (λ (g : Bool). cond g (numberOf (ownPlace x p)) (x .numbers .latest)) got;
       flags = ap (verdictFlag p) got;
       bytes = refl;
     }
@@ -114,15 +124,26 @@ reply-goes x h d room p v =
       complete = λ w e. rw (fate-kept b have (length d) (w .has-data) (w .fits), e) (behind x h _ p _ _ v);
       more = λ w e.
           rw (fate-kept b have (length d) (w .has-data) (w .fits), e)
-          (let k = behind x h _ p _ Kept v in record { state = k .state; flags = k .flags ∙ no-verdict-flag p; bytes = k .bytes });
+          (raises _ _ _ _ _ (no-verdict-flag p) (behind x h _ p _ Kept v));
     }
+
+-- what is reported of it is nothing to them
+reply-whole :
+    (c : Terms) (before : Sending) (x : Exchange) (h d room : List ℕ) (p have : ℕ) (j : Judging)
+    → ReplyGoes x h d room p have j → ReplyGoes x h d room p have (whole c before h j)
+reply-whole c before x h d room p have j w = record {
+  broken = λ s. comes-whole c before h j _ _ _ (w .broken s);
+  complete = λ f e. comes-whole c before h j _ _ _ (w .complete f e);
+  more = λ f e. comes-whole c before h j _ _ _ (w .more f e);
+}
 
 pub reply-block : ReplyBlock
 unfolding replyBlock ownOffered replied savedNow
 reply-block c x h d room four new p w =
-    subst (ReplyGoes x h d room p (bytesBefore x b)) (sym judges)
+    reply-whole c (x .sending) x h d room p _ _
+    (subst (ReplyGoes x h d room p (bytesBefore x b)) (sym judges)
     (subst (λ (n : ℕ). ReplyGoes x h d room p n (repliedAs (savedNow x h) p o (repliedBy o b (fateOf b have (length d))) (fateOf b have (length d)) d room)) (sym before)
-    (reply-goes x h d room p (undecided o b (w .so))))
+    (reply-goes x h d room p (undecided o b (w .so)))))
   where
     b : Header
     b = headerOf h
@@ -136,7 +157,7 @@ reply-block c x h d room four new p w =
     before : bytesBefore x b ≡ have
     before = bytes-before x b four .reply p w
 
-    judges : judgeOf c x h d room ≡ repliedAs (savedNow x h) p o (repliedBy o b (fateOf b have (length d))) (fateOf b have (length d)) d room
+    judges : rulesOf c x h d room ≡ repliedAs (savedNow x h) p o (repliedBy o b (fateOf b have (length d))) (fateOf b have (length d)) d room
     judges =
         replied-there c x h d room four new p w
         ∙ ap (λ (q : Own). repliedAs (savedNow x h) p o q (fateOf b have (length d)) d room) (held (ownTakes o b) _ o (test.reply-says o b .1 (w .so)))
@@ -154,17 +175,28 @@ message-goes x h d room p =
     let b = headerOf h in
     let have = incomingLength (incomingPlace x p) in
     record {
-      broken = λ s. ⊎-elim (λ f. rw f (record { state = refl; flags = refl; bytes = refl })) (λ f. rw f (record { state = refl; flags = refl; bytes = refl })) (spoils b have d s);
-      complete = λ w e. rw (fate-kept b have (length d) (w .has-data) (w .fits), e) (record { state = refl; flags = refl; bytes = refl });
-      more = λ w e. rw (fate-kept b have (length d) (w .has-data) (w .fits), e) (record { state = refl; flags = no-incoming-flag p; bytes = refl });
+      broken = λ s. ⊎-elim (λ f. rw f (record { own = refl; incoming = refl; saved = refl; latest = refl; flags = refl; bytes = refl })) (λ f. rw f (record { own = refl; incoming = refl; saved = refl; latest = refl; flags = refl; bytes = refl })) (spoils b have d s);
+      complete = λ w e. rw (fate-kept b have (length d) (w .has-data) (w .fits), e) (record { own = refl; incoming = refl; saved = refl; latest = refl; flags = refl; bytes = refl });
+      more = λ w e. rw (fate-kept b have (length d) (w .has-data) (w .fits), e) (record { own = refl; incoming = refl; saved = refl; latest = refl; flags = no-incoming-flag p; bytes = refl });
     }
+
+-- what is reported of it is nothing to them
+message-whole :
+    (c : Terms) (before : Sending) (x : Exchange) (h d room : List ℕ) (p have : ℕ) (j : Judging)
+    → MessageGoes x h d room p have j → MessageGoes x h d room p have (whole c before h j)
+message-whole c before x h d room p have j w = record {
+  broken = λ s. comes-whole c before h j _ _ _ (w .broken s);
+  complete = λ f e. comes-whole c before h j _ _ _ (w .complete f e);
+  more = λ f e. comes-whole c before h j _ _ _ (w .more f e);
+}
 
 pub message-block : MessageBlock
 unfolding newBlock noReplyBlock messageBlock incomingOffered goesOn savedNow
 message-block c x h d room four new none p w =
-    subst (MessageGoes x h d room p (bytesBefore x b)) (sym judges)
+    message-whole c (x .sending) x h d room p _ _
+    (subst (MessageGoes x h d room p (bytesBefore x b)) (sym judges)
     (subst (λ (n : ℕ). MessageGoes x h d room p n (continuedAs (savedNow x h) p i (keptBy i b (fateOf b have (length d))) (fateOf b have (length d)) d room)) (sym before)
-    (message-goes x h d room p))
+    (message-goes x h d room p)))
   where
     b : Header
     b = headerOf h
@@ -184,7 +216,7 @@ message-block c x h d room four new none p w =
     before : bytesBefore x b ≡ have
     before = bytes-before x b four .message none p w
 
-    judges : judgeOf c x h d room ≡ continuedAs (savedNow x h) p i (keptBy i b (fateOf b have (length d))) (fateOf b have (length d)) d room
+    judges : rulesOf c x h d room ≡ continuedAs (savedNow x h) p i (keptBy i b (fateOf b have (length d))) (fateOf b have (length d)) d room
     judges =
         passes c x h d room new
         ∙ ap (λ (f : Found). ofReply f (savedNow x h) (headerOf h) d room) no-reply
@@ -196,13 +228,14 @@ message-block c x h d room four new none p w =
 pub no-place-taken : NoPlaceTaken
 unfolding newBlock noReplyBlock orPrimary primaryBlock thrown savedNow
 no-place-taken c x h d room four new none no-message s =
-    subst (Untouched (onlySaved x h) room) (sym judges)
+    comes-whole c (x .sending) h (rulesOf c x h d room) (onlySaved x h) noFlags room
+    (subst (Untouched (onlySaved x h) room) (sym judges)
     (chosen (Untouched (onlySaved x h) room) (beginsPrimary (headerOf h)) (primaryBlock (savedNow x h) (headerOf h) d room) _
     (λ e.
-    ⊎-elim (λ f. rw f (record { state = refl; flags = refl; bytes = refl })) (λ f. rw f (record { state = refl; flags = refl; bytes = refl })) (spoils (headerOf h) 0 d s))
-    (λ e. record { state = refl; flags = refl; bytes = refl }))
+    ⊎-elim (λ f. rw f (record { own = refl; incoming = refl; saved = refl; latest = refl; flags = refl; bytes = refl })) (λ f. rw f (record { own = refl; incoming = refl; saved = refl; latest = refl; flags = refl; bytes = refl })) (spoils (headerOf h) 0 d s))
+    (λ e. record { own = refl; incoming = refl; saved = refl; latest = refl; flags = refl; bytes = refl })))
   where
-    judges : judgeOf c x h d room ≡ orPrimary (savedNow x h) (headerOf h) d room
+    judges : rulesOf c x h d room ≡ orPrimary (savedNow x h) (headerOf h) d room
     judges =
         passes c x h d room new
         ∙ ap (λ (f : Found). ofReply f (savedNow x h) (headerOf h) d room) (test.no-reply x four (headerOf h) none)

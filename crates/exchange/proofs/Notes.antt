@@ -23,7 +23,7 @@ use Rattle.table.specs.declared.Found.{Found}
 use Rattle.table.specs.declared.Found.the-variants.{At, Nowhere}
 use Rattle.exchange.specs.Note.{noteBy, noteNumber}
 use Rattle.exchange.specs.Exchange.{ownPlace, incomingPlace, savedNow}
-use Rattle.exchange.specs.Judge.{thrown, isMisrouted, isDuplicate, replyBlock, messageBlock, beginsAt, inFree, inPlace, takesPlace, primaryBy, primaryBlock, orPrimary, ofMessage, noReplyBlock, ofReply, newBlock, judgeOf}
+use Rattle.exchange.specs.Judge.{thrown, isMisrouted, isDuplicate, replyBlock, messageBlock, beginsAt, inFree, inPlace, takesPlace, primaryBy, primaryBlock, orPrimary, ofMessage, noReplyBlock, ofReply, newBlock, rulesOf}
 use Rattle.exchange.specs.Rules.{Duplicate, New, Expected, messageBytes, replyBytes, bytesBefore, total, HasPlace, Ruled, misrouted, duplicate, stray, empty, too-long, no-place, kept, noted, NotesExactly}
 use Rattle.exchange.specs.declared.Note.the-variants.{Stray}
 use Rattle.exchange.specs.declared.Exchange.{Exchange}
@@ -134,10 +134,10 @@ new-note x h d room = of-reply (savedNow x h) (headerOf h) d room (replyFor (x .
 
 -- of any block
 note-by : (c : Terms) (x : Exchange) (h d room : List ℕ)
-    → noted (judgeOf c x h d room)
+    → noted (rulesOf c x h d room)
     ≡ ruleNote (test.isRouted c (headerOf h)) (isDuplicate c x h)
     (newNote (isExpected x (headerOf h)) (lacksData (headerOf h) (length d)) (tooLong (bytesBefore x (headerOf h)) (length d)) (hasPlace x (headerOf h)))
-unfolding judgeOf isMisrouted thrown
+unfolding rulesOf isMisrouted thrown
 note-by c x h d room =
     of-choice noted (not (test.isRouted c (headerOf h))) _ _
     ∙ ap (λ (n : ℕ). cond (not (test.isRouted c (headerOf h))) 22 n)

@@ -31,8 +31,8 @@ use Rattle.table.proofs.Finding.{reply-lowest, message-lowest}
 use Rattle.table.proofs.Tables.{own-table, incoming-table}
 use Rattle.exchange.specs.Note.{noteBy}
 use Rattle.exchange.specs.Exchange.{ownPlace, incomingPlace, putOwn, putIncoming, withSending, sentFrom, putReplied, savedNow}
-use Rattle.exchange.specs.Tick.{tickOf}
-use Rattle.exchange.specs.Send.{putOutBy, endedOwn, endedReply, sentBy, failedBy}
+use Rattle.exchange.specs.Tick.{passedOf, tickOf}
+use Rattle.exchange.specs.Send.{putOutBy, endedOwn, endedReply, endedReport, sentBy, failedBy}
 use Rattle.exchange.specs.Judge.{thrown, spoiltBy, replyBlock, messageBlock, beginsAt, judgeOf}
 use Rattle.exchange.specs.Request.{notReady, refusedBy, refused, claimedAt, replyAccepted, Request, answerOf}
 use Rattle.exchange.specs.History.{Call, block, tick, put-out, acknowledged, failed, request, called}
@@ -170,7 +170,7 @@ module _ (c : Terms) (x : Exchange) (p : ℕ) (k : p < 4) where
       (λ n t r m. (λ four s. rw r nothing, λ four s. rw (r, m, thrown-first n t, same-either) nothing))
 
   ticked : Both (λ z. Does z false (tickOf c x .exchange) (λ s. watches z c p x [] s tick))
-  unfolding tickOf
+  unfolding passedOf
   ticked = (
     λ four s. rw (own-table (x .own) c four .1 .each p k) (event own.tick refl),
     λ four s. rw (incoming-table (x .incoming) c four .1 .each p k) (event incoming.tick refl),
@@ -181,18 +181,21 @@ module _ (c : Terms) (x : Exchange) (p : ℕ) (k : p < 4) where
   goes-out sending.Nothing = (λ four s. nothing, λ four s. nothing)
   goes-out (sending.Primary q n) = (put side.own false q own.put-out (λ z. refl), λ four s. nothing)
   goes-out (sending.Reply q f n) = (λ four s. nothing, λ four s. nothing)
+  goes-out (sending.Report f n) = (λ four s. nothing, λ four s. nothing)
 
   sent : (q : Sending) → Does side.own false (sentBy q x .exchange) (λ s. cond (sentFrom q p) (own.acked (s .request) s) s) × Does side.incoming false (sentBy q x .exchange) (λ s. s)
-  unfolding endedOwn endedReply putOwn putIncoming withSending
+  unfolding endedOwn endedReply endedReport putOwn putIncoming withSending
   sent sending.Nothing = (λ four s. nothing, λ four s. nothing)
   sent (sending.Primary q n) = (put side.own false q own.sent (λ z. refl), λ four s. nothing)
   sent (sending.Reply q f n) = (λ four s. nothing, λ four s. rw same-either at (put side.incoming false q incoming.sent (λ z. refl) four s))
+  sent (sending.Report f n) = (λ four s. nothing, λ four s. nothing)
 
   lost : (q : Sending) → Does side.own false (failedBy q x .exchange) (λ s. cond (sentFrom q p) (own.gaveUp (s .request) s) s) × Does side.incoming false (failedBy q x .exchange) (λ s. s)
-  unfolding endedOwn endedReply putOwn putIncoming withSending
+  unfolding endedOwn endedReply endedReport putOwn putIncoming withSending
   lost sending.Nothing = (λ four s. nothing, λ four s. nothing)
   lost (sending.Primary q n) = (put side.own false q own.failed (λ z. refl), λ four s. nothing)
   lost (sending.Reply q f n) = (λ four s. nothing, λ four s. rw same-either at (put side.incoming false q incoming.failed (λ z. refl) four s))
+  lost (sending.Report f n) = (λ four s. nothing, λ four s. nothing)
 
   asked : (room : List ℕ) (r : Request) → Both (λ z. Does z (releases r z p) (answerOf c x r room .answer .exchange) (λ s. watches z c p x room s (request r)))
   unfolding refused refusedBy claimedAt replyAccepted putOwn putIncoming withSending notReady

@@ -2,12 +2,15 @@
 -- alone, before ticks and after them. Assumes nothing.
 use Prim.Native.Nat.{ℕ, zero, suc, _+_, _≤_, _<_}
 use mathlib.Core.Path.{_≡_, refl, sym, ap, subst, _∙_}
-use mathlib.Core.Bool.{true, false≢true}
+use mathlib.Core.Bool.{true, false≢true, true≢false}
 use mathlib.Core.List.{List}
 use mathlib.Core.Logic.{_≢_}
 use native.Mathlib.Omega.{arith}
+use lib.Dec.{eqb}
 use lib.ListN.{length-map, length-set, List·getD-map}
 use lib.Seq.{getD-set-same, getD-set-other}
+use borrow.Author.Tests.{eqb-true, eqb-false}
+use Rattle.wire.proofs.Choice.{either}
 use Rattle.header.specs.Header.{headerOf}
 use Rattle.header.specs.declared.header.Header.{Header}
 use Rattle.settings.specs.declared.terms.Terms.{Terms}
@@ -30,16 +33,15 @@ use Rattle.place.specs.declared.Incoming.{Incoming}
 use Rattle.table.specs.Own.{ownPut}
 use Rattle.table.specs.Incoming.{incomingPut}
 use Rattle.table.specs.Theorems.{Alike}
-use Rattle.exchange.specs.Exchange.{ownPlace, incomingPlace, sentBehind}
-use Rattle.exchange.specs.Tick.{tickOf}
+use Rattle.exchange.specs.Exchange.{ownPlace, incomingPlace}
+use Rattle.exchange.specs.Request.{sendingBy}
+use Rattle.exchange.specs.Tick.{passedOf, tickOf}
 use Rattle.exchange.specs.Rules.{Fours}
 use Rattle.exchange.specs.Releases.{Side}
 use Rattle.exchange.specs.Releases as side
 use Rattle.exchange.specs.Assembly.{passes, expectsAt}
-use Rattle.exchange.specs.declared.Numbers.{Numbers}
-use Rattle.exchange.specs.declared.Sending.{Sending}
 use Rattle.exchange.specs.declared.Exchange.{Exchange}
-use Rattle.exchange.proofs.Cases.{by-behind}
+use Rattle.exchange.proofs.Unreported.{ticked-sends}
 use Rattle.exchange.proofs.Sides.{Place, place}
 
 -- ---- one tick
@@ -50,7 +52,7 @@ tickAt side.own = ownTick
 tickAt side.incoming = incomingTick
 
 pub ticked : (z : Side) (c : Terms) (x : Exchange) (q : ℕ) → place z (tickOf c x .exchange) q ≡ tickAt z c (place z x q)
-unfolding tickOf
+unfolding passedOf
 ticked side.own c x q = List·getD-map (ownTick c) (x .own) q freshOwn
 ticked side.incoming c x q = List·getD-map (incomingTick c) (x .incoming) q freshIncoming
 
@@ -58,17 +60,19 @@ ticked side.incoming c x q = List·getD-map (incomingTick c) (x .incoming) q fre
 
 module _ (c : Terms) (x : Exchange) where
   pub saved-stays : (n : ℕ) → passes c x n .saved ≡ x .saved
-  unfolding passes tickOf
+  unfolding passes passedOf
   saved-stays zero = refl
   saved-stays (suc n) = saved-stays n
 
-  pub sending-stays : (n : ℕ) → passes c x n .sending ≡ x .sending
-  unfolding passes tickOf
-  sending-stays zero = refl
-  sending-stays (suc n) = sending-stays n
+  -- a message that is being sent goes on: what is reported meanwhile waits (where none is, a report may start: `Timely`)
+  pub sending-stays : (n : ℕ) → sendingBy (x .sending) ≡ true → passes c x n .sending ≡ x .sending
+  unfolding passes
+  sending-stays zero sent = refl
+  sending-stays (suc n) sent =
+      ticked-sends (λ m. m ≡ x .sending) (λ e f k. absurd (true≢false (sym sent ∙ ap sendingBy (sym e)))) c (passes c x n) (sending-stays n sent)
 
   pub fours-stay : (n : ℕ) → Fours x → Fours (passes c x n)
-  unfolding passes tickOf
+  unfolding passes passedOf
   fours-stay zero four = four
   fours-stay (suc n) four =
       let w = fours-stay n four in
@@ -186,24 +190,16 @@ not-expected c n o = by (o .stage)
 
 -- ---- but for one place
 
--- what is being sent once a block of the message in place p has come: of a reply, not its primary
-abbrev pub sentPast : Side → ℕ → Sending → Sending
-sentPast side.own p m = sentBehind m p
-sentPast side.incoming p m = m
+-- whether place q is this one
+pub by-place : {A : Type 0} (q p : ℕ) → (q ≡ p → A) → (q ≢ p → A) → A
+by-place {A} q p here there = either (eqb q p) (λ t. A) (λ e. here (eqb-true q p e)) (λ e. there (eqb-false q p e))
 
--- a second block changes it no more
-past-twice : (z : Side) (p : ℕ) (m : Sending) → sentPast z p (sentPast z p m) ≡ sentPast z p m
-unfolding sentBehind
-past-twice side.own p m = by-behind (λ n. sentBehind n p ≡ n) m p (λ e. refl) (λ e. rw e)
-past-twice side.incoming p m = refl
-
--- y is x but for place p on side z, for the sending of its primary, for the saved header and for the transaction numbers
+-- all places of y but place p on side z are those of x
 pub record Beside (z : Side) (p : ℕ) (x y : Exchange) : Type 0 where
   pub others : (s : Side) (q : ℕ) → (s ≡ z → q ≢ p) → place s y q ≡ place s x q
-  pub sending : sentPast z p (y .sending) ≡ sentPast z p (x .sending)
 
 pub itself : (z : Side) (p : ℕ) (x : Exchange) → Beside z p x x
-itself z p x = record { others = λ s q ne. refl; sending = refl }
+itself z p x = record { others = λ s q ne. refl }
 
 -- so it is on the other side
 sides : side.own ≡ side.incoming → ⊥
@@ -221,10 +217,7 @@ unfolding passes
 beside-ticks z p c x y b zero = b
 beside-ticks z p c x y b (suc n) =
     let w = beside-ticks z p c x y b n in
-    record {
-      others = λ s q ne. ticked s c (passes c y n) q ∙ ap (tickAt s c) (w .others s q ne) ∙ sym (ticked s c (passes c x n) q);
-      sending = ap (sentPast z p) (sending-stays c y (suc n)) ∙ b .sending ∙ sym (ap (sentPast z p) (sending-stays c x (suc n)));
-    }
+    record { others = λ s q ne. ticked s c (passes c y n) q ∙ ap (tickAt s c) (w .others s q ne) ∙ sym (ticked s c (passes c x n) q) }
 
 -- place p of side z alone is put anew
 abbrev ownsBy : (z : Side) → List Own → ℕ → Place z → List Own
@@ -235,31 +228,32 @@ abbrev incomingsBy : (z : Side) → List Incoming → ℕ → Place z → List I
 incomingsBy side.own l p o = l
 incomingsBy side.incoming l p i = incomingPut l p i
 
--- by a block of its message with header bytes h; n are the transaction numbers then
-abbrev pub putBlock : (z : Side) → Exchange → List ℕ → ℕ → Place z → Numbers → Exchange
-putBlock z y h p o n = record {
+-- by a block of its message with header bytes h; `latest` is the number of the latest verdict then
+abbrev pub putBlock : (z : Side) → Exchange → List ℕ → ℕ → Place z → ℕ → Exchange
+putBlock z y h p o latest = record {
   own = ownsBy z (y .own) p o;
   incoming = incomingsBy z (y .incoming) p o;
   saved = record { any = true; header = h };
-  numbers = n;
-  sending = sentPast z p (y .sending);
+  numbers = record { last = y .numbers .last; latest = latest };
+  sending = y .sending;
+  reports = y .reports;
 }
 
 -- and so once that place is put so
-module _ (p : ℕ) (y : Exchange) (h : List ℕ) (n : Numbers) where
-  put-others : (z : Side) (o : Place z) (s : Side) (q : ℕ) → (s ≡ z → q ≢ p) → place s (putBlock z y h p o n) q ≡ place s y q
+module _ (p : ℕ) (y : Exchange) (h : List ℕ) (latest : ℕ) where
+  put-others : (z : Side) (o : Place z) (s : Side) (q : ℕ) → (s ≡ z → q ≢ p) → place s (putBlock z y h p o latest) q ≡ place s y q
   put-others side.own o side.own q ne = getD-set-other (y .own) p q o freshOwn (ne refl)
   put-others side.own o side.incoming q ne = refl
   put-others side.incoming i side.own q ne = refl
   put-others side.incoming i side.incoming q ne = getD-set-other (y .incoming) p q i freshIncoming (ne refl)
 
-  pub put-fours : (z : Side) (o : Place z) → Fours y → Fours (putBlock z y h p o n)
+  pub put-fours : (z : Side) (o : Place z) → Fours y → Fours (putBlock z y h p o latest)
   put-fours side.own o four = record { own = length-set (y .own) p o ∙ four .own; incoming = four .incoming }
   put-fours side.incoming i four = record { own = four .own; incoming = length-set (y .incoming) p i ∙ four .incoming }
 
-  pub put-there : (z : Side) (o : Place z) → Fours y → p < 4 → place z (putBlock z y h p o n) p ≡ o
+  pub put-there : (z : Side) (o : Place z) → Fours y → p < 4 → place z (putBlock z y h p o latest) p ≡ o
   put-there side.own o four k = getD-set-same (y .own) p o freshOwn (omega (arith, four .own))
   put-there side.incoming i four k = getD-set-same (y .incoming) p i freshIncoming (omega (arith, four .incoming))
 
-  pub beside-put : (z : Side) (o : Place z) (x : Exchange) → Beside z p x y → Beside z p x (putBlock z y h p o n)
-  beside-put z o x b = record { others = λ s q ne. put-others z o s q ne ∙ b .others s q ne; sending = past-twice z p (y .sending) ∙ b .sending }
+  pub beside-put : (z : Side) (o : Place z) (x : Exchange) → Beside z p x y → Beside z p x (putBlock z y h p o latest)
+  beside-put z o x b = record { others = λ s q ne. put-others z o s q ne ∙ b .others s q ne }

@@ -118,4 +118,6 @@ fresh-exactly last =
       sending = refl;
       last = refl;
       latest = refl;
+      none-waits = refl;
+      none-dropped = refl;
     }

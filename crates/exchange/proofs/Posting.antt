@@ -1,9 +1,9 @@
--- The message being sent is the one that was accepted last (`specs/Posting.antt`). Assumes nothing.
+-- The message being sent is the one that was accepted, or the report that started, last (`specs/Posting.antt`). Assumes nothing.
 use Prim.Native.Nat.{ℕ, _+_, _*_, _≤_, _<_}
 use mathlib.Core.Path.{_≡_, refl, sym, ap, _∙_, subst}
 use mathlib.Core.Bool.{Bool, true, false, cond, false≢true}
 use mathlib.Core.List.{List, [], _∷_}
-use mathlib.Core.Logic.{⊎-elim}
+use mathlib.Core.Logic.{_⊎_, ⊎-elim, _≢_}
 use native.Mathlib.Omega.{arith}
 use lib.ListN.{length}
 use borrow.Author.Tests.{eq-eqb}
@@ -27,21 +27,25 @@ use Rattle.table.specs.Own.{replyFor}
 use Rattle.table.specs.Incoming.{messageFor, openAlike, freeIncoming}
 use Rattle.table.specs.declared.Found.{Found}
 use Rattle.table.specs.declared.Found.the-variants.{At, Nowhere}
+use Rattle.reports.specs.declared.Reports.{Reports}
 use Rattle.exchange.specs.Exchange.{freshExchange, ownPlace, incomingPlace, sentFrom}
-use Rattle.exchange.specs.Send.{outgoingAt, outgoingOf}
+use Rattle.exchange.specs.Tick.{tickOf}
+use Rattle.exchange.specs.Send.{outgoingAt, outgoingOf, sentOf, failedOf}
 use Rattle.exchange.specs.Judge.{judgeOf}
-use Rattle.exchange.specs.Request.{sendingBy, isSending, Request, primary, reply, free-own, free-incoming, answerOf}
+use Rattle.exchange.specs.Request.{sendingBy, Request, primary, reply, free-own, free-incoming, answerOf}
 use Rattle.exchange.specs.Range.{sendingInRange, SendingFits}
 use Rattle.exchange.specs.Reading.{incomingReading, headerBy, ownReading}
-use Rattle.exchange.specs.Refusals.{Replied}
+use Rattle.exchange.specs.Refusals.{Opened, Replied}
 use Rattle.exchange.specs.Rules.{Fours}
-use Rattle.exchange.specs.Numbers.{numberShown}
+use Rattle.exchange.specs.BeingSent.{sendingAfter, ReportBegins}
+use Rattle.exchange.specs.Reports.{sameMessage}
+use Rattle.exchange.specs.Numbers.{numberShown, NumbersAre}
 use Rattle.exchange.specs.History.{Call, block, tick, put-out, acknowledged, failed, request, called, Joined, ofNew, ofReply, joins, ifKept, joinsAsked, sees, Track, next, track, atStart}
 use Rattle.exchange.specs.Releases as side
-use Rattle.exchange.specs.Theorems.{lengthSent}
+use Rattle.exchange.specs.Theorems.{lengthSent, fromCaller}
 use Rattle.exchange.specs.Watching.{toldBy, foundAt, takenAt, acceptedAs, replyFrom, ownTaken, ownSees, OwnAt, watch}
 use Rattle.exchange.specs.Underway.{OnItsWay, Way, none, wayAt, way, isOnway, Underway, ReplyAt, replySees}
-use Rattle.exchange.specs.Posting.{Post, post, nothingPosted, primaryAsked, replyAsked, postAsked, postSees, OutgoingAccepted}
+use Rattle.exchange.specs.Posting.{Post, post, nothingPosted, primaryAsked, replyAsked, reportSent, postAsked, postStarted, postReported, postSees, OutgoingAccepted}
 use Rattle.exchange.specs.declared.Sending.{Sending}
 use Rattle.exchange.specs.declared.Sending.the-variants as sending
 use Rattle.exchange.specs.declared.Exchange.{Exchange}
@@ -54,17 +58,20 @@ use Rattle.exchange.specs.declared.Asked.{Asked}
 use Rattle.exchange.specs.declared.Asked.the-variants.{Taken, Refused}
 use Rattle.exchange.specs.declared.Primary.{Primary}
 use Rattle.exchange.proofs.Accepting.{refused-number, refused-changes-nothing, accepted-opens, accepted-replies, accepted-releases}
-use Rattle.exchange.proofs.BeingSent.{sending-ends}
+use Rattle.exchange.proofs.Same.{message-same, other-message}
+use Rattle.exchange.proofs.Starting.{still, over, begins}
+use Rattle.exchange.proofs.BeingSent.{request-sends, sending-ends}
 use Rattle.exchange.proofs.Sides.{by-event, nothingSeen}
 use Rattle.exchange.proofs.OneCall.{call}
 use Rattle.exchange.proofs.Ranges.{sending-fits-exactly}
 use Rattle.exchange.proofs.Inside.{Ranged, one-ranged}
-use Rattle.exchange.proofs.Runs.{Sound, four-places, sound-fresh, run-any}
+use Rattle.exchange.proofs.Runs.{Sound, four-places, sound-fresh, sound-on, run-any}
 use Rattle.exchange.proofs.Watching.{own-watched-on, watched-start}
 use Rattle.exchange.proofs.Underway.{apart, underway-open, underway-on}
 use Rattle.exchange.proofs.Replies.{reply-watched-on}
 use Rattle.exchange.proofs.Repeated.{any-fresh}
-use Rattle.exchange.proofs.Numbering.{given-shown, numbers-kept-on}
+use Rattle.exchange.proofs.Another.{Numbered, call-numbered, begun-other}
+use Rattle.exchange.proofs.Numbering.{numbers-fresh, numbersOf, own-numbers, Moves, call-moves, put-out-shows, given-shown, numbers-kept-on}
 
 -- ---- what the onlookers of the places know of it
 
@@ -77,7 +84,7 @@ module _ (s : own.Seen) where
 
   asked-header : (c : Terms) (x : Exchange) → OnItsWay (s .request) → (t : Bool) (r : Request) → cond t (ownTaken c x s r) s .header ≡ s .header
   asked-header c x u true (primary q d) =
-      let shown : own.Request → Header = λ r. own.asked r s (acceptedAs c x q) .header in ⊎-elim (ap shown) (ap shown) u
+      let shown : own.Request → Header = λ r. own.asked r s (acceptedAs c x q (length d)) .header in ⊎-elim (ap shown) (ap shown) u
   asked-header c x u true (reply k f d) = refl
   asked-header c x u true (free-own k) = refl
   asked-header c x u true (free-incoming k) = refl
@@ -112,32 +119,96 @@ replying-kept c i r incoming.release = ap (λ (j : Incoming). j .header) (comple
 
 -- ---- one call
 
--- what is known between calls: the message being sent is as it was posted, and is one of a place; what the onlookers of the places have seen
--- and, if F holds, that a number has no more than its bits
+-- what is known of the message being sent: it is as it was posted. F is that a number has no more than its bits.
+pub record Holds (F : Type 0) (c : Terms) (x : Exchange) (s : Post) : Type 0 where
+  pub size : fromCaller (x .sending) ≡ true → lengthSent (x .sending) ≡ length (s .text)
+  pub message : F → fromCaller (x .sending) ≡ true → InRange (s .header) → outgoingOf x ≡ outgoing.Message (s .header) (length (s .text))
+  pub report : (f n : ℕ) → x .sending ≡ sending.Report f n → s ≡ reportSent (c .device) f n (x .reports .shown)
+  -- a reply has the function that was asked for, whatever numbers its header has
+  pub function : (p f n : ℕ) → x .sending ≡ sending.Reply p f n → f ≡ s .header .function
+
+-- and between calls: it is one of a place, or a report that has the last number; and what the onlookers of the places have seen
 pub record Carries (F : Type 0) (c : Terms) (x : Exchange) (s : Post) : Type 0 where
-  pub size : isSending x ≡ true → lengthSent (x .sending) ≡ length (s .text)
-  pub message : F → isSending x ≡ true → InRange (s .header) → outgoingOf x ≡ outgoing.Message (s .header) (length (s .text))
+  pub holds : Holds F c x s
   ranged : Ranged x
-  fits : F → x .numbers .last ≤ 65535
+  numbered : Numbered x
+  pub numbers : F → NumbersAre x (numbersOf x)
   own : (p : ℕ) → p < 4 → (z : own.Seen) × OwnAt c p x z × Underway p x z
   way : (p : ℕ) → p < 4 → (z : Way) × ReplyAt p x z
 
--- of the message alone
-record Holds (F : Type 0) (x : Exchange) (s : Post) : Type 0 where
-  size : isSending x ≡ true → lengthSent (x .sending) ≡ length (s .text)
-  message : F → isSending x ≡ true → InRange (s .header) → outgoingOf x ≡ outgoing.Message (s .header) (length (s .text))
-
 -- the header is that of its place
-same-message : (z : Sending) (x y : Exchange) → ((p n : ℕ) → z ≡ sending.Primary p n → ownPrimary (ownPlace y p) ≡ ownPrimary (ownPlace x p))
+same-outgoing : (z : Sending) (x y : Exchange) → ((p n : ℕ) → z ≡ sending.Primary p n → ownPrimary (ownPlace y p) ≡ ownPrimary (ownPlace x p))
     → ((p f n : ℕ) → z ≡ sending.Reply p f n → incomingPlace y p .header ≡ incomingPlace x p .header) → outgoingAt z y ≡ outgoingAt z x
-same-message sending.Nothing x y o i = refl
-same-message (sending.Primary p n) x y o i = ap (λ (h : Header). outgoing.Message h n) (o p n refl)
-same-message (sending.Reply p f n) x y o i = ap (λ (h : Header). outgoing.Message (replyAsked h f) n) (i p f n refl)
+same-outgoing sending.Nothing x y o i = refl
+same-outgoing (sending.Primary p n) x y o i = ap (λ (h : Header). outgoing.Message h n) (o p n refl)
+same-outgoing (sending.Reply p f n) x y o i = ap (λ (h : Header). outgoing.Message (replyAsked h f) n) (i p f n refl)
+same-outgoing (sending.Report f n) x y o i = refl
+
+-- the same message is posted once
+same-started : (c : Terms) (z : Sending) (shown : List ℕ) (s : Post) → postStarted c true z shown s ≡ s
+same-started c sending.Nothing shown s = refl
+same-started c (sending.Primary p n) shown s = refl
+same-started c (sending.Reply p f n) shown s = refl
+same-started c (sending.Report f n) shown s = refl
+
+pub same-post : (c : Terms) (x y : Exchange) (s : Post) → y .sending ≡ x .sending → postReported c x y s ≡ s
+same-post c x y s e =
+    ap (λ (t : Bool). postStarted c t (y .sending) (y .reports .shown) s) (message-same (x .sending) (y .sending) (sym e))
+    ∙ same-started c (y .sending) (y .reports .shown) s
+
+-- a report that starts is posted
+new-post : (c : Terms) (x y : Exchange) (s : Post) → x .sending ≢ y .sending → (f n : ℕ) → y .sending ≡ sending.Report f n
+    → postReported c x y s ≡ reportSent (c .device) f n (y .reports .shown)
+new-post c x y s other f n e =
+    ap (λ (t : Bool). postStarted c t (y .sending) (y .reports .shown) s) (other-message (x .sending) (y .sending) other)
+    ∙ ap (λ (z : Sending). postStarted c false z (y .reports .shown) s) e
+
+-- a request starts none
+pub asked-post : (c : Terms) (x y : Exchange) (s : Post) (r : Request) (a : Asked) → y .sending ≡ sendingAfter r a (x .sending) → postReported c x y s ≡ s
+asked-post c x y s (primary q d) (Taken p) e =
+    ap (λ (z : Sending). postStarted c (sameMessage (x .sending) z) z (y .reports .shown) s) e
+asked-post c x y s (reply k f d) (Taken p) e =
+    ap (λ (z : Sending). postStarted c (sameMessage (x .sending) z) z (y .reports .shown) s) e
+asked-post c x y s (free-own k) (Taken p) e = same-post c x y s e
+asked-post c x y s (free-incoming k) (Taken p) e = same-post c x y s e
+asked-post c x y s r (Refused n) e = same-post c x y s e
+
+-- Of two calls, in the second of which time passes, one starts at most: it is posted once.
+module _ (c : Terms) (x y v : Exchange) (s : Post) (numbered : Numbered y) (late : (v .sending ≡ y .sending) ⊎ ReportBegins (y .sending) (v .sending)) where
+  idle-post : (a : Exchange) (q : Post) → v .sending ≡ sending.Nothing → postReported c a v q ≡ q
+  idle-post a q e = ap (λ (z : Sending). postStarted c (sameMessage (a .sending) z) z (v .reports .shown) q) e
+
+  was-idle : v .sending ≡ sending.Nothing → y .sending ≡ sending.Nothing
+  was-idle e = ⊎-elim (λ f. sym f ∙ e) (λ w. w .was) late
+
+  pub post-late : Moves y v → x .sending ≢ v .sending → postReported c y v (postReported c x y s) ≡ postReported c x v s
+  post-late (still l e h) other =
+      same-post c y v _ e ∙ (λ i. postStarted c (sameMessage (x .sending) (sym e i)) (sym e i) (sym h i) s)
+  post-late (over l e) other =
+      idle-post y _ e ∙ ap (λ (z : Sending). postStarted c (sameMessage (x .sending) z) z (y .reports .shown) s) (was-idle e) ∙ sym (idle-post x s e)
+  post-late (begins r l e h) other =
+      new-post c y v _ (begun-other y v numbered (r .function) l e) _ _ e ∙ sym (new-post c x v s other _ _ e)
 
 -- what is read of a complete message
 complete-read : (x : Exchange) (p n : ℕ) → incomingPlace x p .stage ≡ arrival.Complete n → headerBy (incomingReading x p) ≡ incomingPrimary (incomingPlace x p)
 unfolding incomingReading
 complete-read x p n e = rw e
+
+-- the header of a primary that was accepted is what was asked for, with the number that its place shows
+pub asked-for : (c : Terms) (x : Exchange) (room : List ℕ) → Fours x → x .numbers .last ≤ 65535 → (q : Primary) (d : List ℕ) (p : ℕ) (y : Exchange) (left : List ℕ)
+    → (o : Opened c x q d room p y left) → o .header ≡ primaryAsked c q (length d) (numberShown (ownReading y p))
+asked-for c x room four fits q d p y left o =
+    let a = o .as-asked in
+    λ i. record {
+      r = a .r i;
+      device = a .device i;
+      w = a .w i;
+      stream = a .stream i;
+      function = a .function i;
+      e = a .e i;
+      number = a .number i;
+      system = (a .system ∙ ap (λ (m : ℕ). q .source * 65536 + m) (sym (given-shown x four fits c q d room p y left o))) i;
+    }
 
 open-used : (z : Standing) → z ≡ standing.Open → z ≡ standing.Free → ⊥
 open-used z e f = let n : _≡_ {A = ℕ} 0 1 = cc in omega arith
@@ -160,11 +231,11 @@ module _ (F : Type 0) (c : Terms) (x : Exchange) (room : List ℕ) (four : Fours
     way-on : (p : ℕ) → p < 4 → (z : Way) × ReplyAt p y z
     way-on p less = let w = g .way p less in (replySees c p x room (w .0) k, reply-watched-on c x room four p less (w .0) (w .1) k)
 
-    numbers-on : F → y .numbers .last ≤ 65535
-    numbers-on f = numbers-kept-on c x room four (record { last = x .numbers .last; latest = x .numbers .latest }) k (record { last = refl; latest = refl; fits = g .fits f }) .fits
+    numbers-on : F → NumbersAre y (numbersOf y)
+    numbers-on f = own-numbers y _ (numbers-kept-on c x room four (numbersOf x) k (g .numbers f))
 
     -- the same message is being sent
-    module _ (same : y .sending ≡ x .sending) where
+    module _ (same : y .sending ≡ x .sending) (shows : y .reports .shown ≡ x .reports .shown) where
       own-same : (p n : ℕ) → x .sending ≡ sending.Primary p n → ownPrimary (ownPlace y p) ≡ ownPrimary (ownPlace x p)
       unfolding own-on
       own-same p n e =
@@ -186,55 +257,62 @@ module _ (F : Type 0) (c : Terms) (x : Exchange) (room : List ℕ) (four : Fours
           by-event (λ (j : Incoming) z. j .header ≡ i .header) (call c x p less side.incoming room k (four .incoming) (nothingSeen side.incoming)) refl
           (λ e t. replying-kept c i (replying-at (i .stage) on) e)
 
-      stays : Holds F y s
+      stays : Holds F c y s
       stays =
-          let still : outgoingOf y ≡ outgoingOf x = ap (λ (z : Sending). outgoingAt z y) same ∙ same-message (x .sending) x y own-same incoming-same in
-          let before : isSending y ≡ true → isSending x ≡ true = λ z. ap sendingBy (sym same) ∙ z in
+          let still : outgoingOf y ≡ outgoingOf x = ap (λ (z : Sending). outgoingAt z y) same ∙ same-outgoing (x .sending) x y own-same incoming-same in
+          let before : fromCaller (y .sending) ≡ true → fromCaller (x .sending) ≡ true = λ z. ap fromCaller (sym same) ∙ z in
           record {
-            size = λ z. ap lengthSent same ∙ g .size (before z);
-            message = λ f z r. still ∙ g .message f (before z) r;
+            size = λ z. ap lengthSent same ∙ g .holds .size (before z);
+            message = λ f z r. still ∙ g .holds .message f (before z) r;
+            report = λ h n e. g .holds .report h n (sym same ∙ e) ∙ ap (reportSent (c .device) h n) (sym shows);
+            function = λ p f n e. g .holds .function p f n (sym same ∙ e);
           }
 
-  -- none is
-  over : (z : Exchange) → z .sending ≡ sending.Nothing → Holds F z s
-  over z e =
-      let none : isSending z ≡ true → ⊥ = λ t. false≢true (ap sendingBy (sym e) ∙ t) in
-      record { size = λ t. absurd (none t); message = λ f t. absurd (none t) }
+    -- a call that is no request
+    moved : Moves x y → Holds F c y (postReported c x y s)
+    moved (still l e h) = subst (Holds F c y) (sym (same-post c x y s e)) (stays e h)
+    moved (over l e) =
+        record {
+          size = λ t. absurd (false≢true (ap fromCaller (sym e) ∙ t));
+          message = λ f t. absurd (false≢true (ap fromCaller (sym e) ∙ t));
+          report = λ h n r. absurd (false≢true (ap sendingBy (sym e ∙ r)));
+          function = λ p f n r. absurd (false≢true (ap sendingBy (sym e ∙ r)));
+        }
+    moved (begins r l e h) =
+        record {
+          size = λ t. absurd (false≢true (ap fromCaller (sym e) ∙ t));
+          message = λ f t. absurd (false≢true (ap fromCaller (sym e) ∙ t));
+          report = new-post c x y s (begun-other x y (g .numbered) (r .function) l e);
+          function = λ p f n r. absurd (false≢true (ap fromCaller (sym e ∙ r)));
+        }
 
   -- a message was accepted
-  began : (z : Exchange) (h m : Header) (d : List ℕ) → lengthSent (z .sending) ≡ length d → (F → m ≡ h) → (InRange m → outgoingOf z ≡ outgoing.Message m (length d)) → Holds F z (post h d)
-  began z h m d size same out = record {
+  began : (z : Exchange) (h m : Header) (d : List ℕ) → fromCaller (z .sending) ≡ true → lengthSent (z .sending) ≡ length d → (F → m ≡ h)
+      → (InRange m → outgoingOf z ≡ outgoing.Message m (length d)) → ((p f n : ℕ) → z .sending ≡ sending.Reply p f n → f ≡ h .function)
+      → Holds F c z (post h d)
+  began z h m d caller size same out function = record {
     size = λ t. size;
     message = λ f t r. out (subst InRange (sym (same f)) r) ∙ ap (λ (k : Header). outgoing.Message k (length d)) (same f);
+    report = λ k n e. absurd (false≢true (ap fromCaller (sym e) ∙ caller));
+    function = function;
   }
 
   asked : (r : Request) (a : Asked) → answerOf c x r room .answer .asked ≡ a
-      → (let z = answerOf c x r room .answer .exchange in Holds F z (postAsked c (incomingReading x) (ownReading z) r a s))
+      → (let z = answerOf c x r room .answer .exchange in Holds F c z (postAsked c (incomingReading x) (ownReading z) r a s))
   asked r (Refused n) e =
-      subst (λ (z : Exchange). Holds F z s) (sym (refused-changes-nothing c x r room (refused-number _ n e) .0)) (record { size = g .size; message = g .message })
+      subst (λ (z : Exchange). Holds F c z s) (sym (refused-changes-nothing c x r room (refused-number _ n e) .0)) (g .holds)
   asked (primary q d) (Taken p) e =
       let o = accepted-opens c x q d room four p e in
       let z = answerOf c x (primary q d) room .answer .exchange in
-      let a = o .as-asked in
-      began z (primaryAsked c q (numberShown (ownReading z p))) (o .header) d (ap lengthSent (o .sending))
-      (λ f i. record {
-        r = a .r i;
-        device = a .device i;
-        w = a .w i;
-        stream = a .stream i;
-        function = a .function i;
-        e = a .e i;
-        number = a .number i;
-        system = (a .system ∙ ap (λ (m : ℕ). q .source * 65536 + m) (sym (given-shown x four (g .fits f) c q d room p _ _ o))) i;
-      })
-      (o .outgoing)
+      began z (primaryAsked c q (length d) (numberShown (ownReading z p))) (o .header) d (ap fromCaller (o .sending)) (ap lengthSent (o .sending))
+      (λ f. asked-for c x room four (g .numbers f .fits) q d p _ _ o) (o .outgoing) (λ k f n r. let e = sym (o .sending) ∙ r in absurd (false≢true cc))
   asked (reply k f d) (Taken p) e =
       let o = accepted-replies c x k f d room p e in
       let z = answerOf c x (reply k f d) room .answer .exchange in
       let a = o .replies-to in
       let read : headerBy (incomingReading x p) ≡ incomingPrimary (incomingPlace x k) =
       ap (λ (j : ℕ). headerBy (incomingReading x j)) (o .same) ∙ complete-read x k (o .size) (o .was) in
-      began z (replyAsked (headerBy (incomingReading x p)) f) (o .header) d (ap lengthSent (o .sending))
+      began z (replyAsked (headerBy (incomingReading x p)) f) (o .header) d (ap fromCaller (o .sending)) (ap lengthSent (o .sending))
       (λ t. (λ i. record {
         r = a .r i;
         device = a .device i;
@@ -246,24 +324,26 @@ module _ (F : Type 0) (c : Terms) (x : Exchange) (room : List ℕ) (four : Fours
         system = a .system i;
       })
       ∙ ap (λ (h : Header). replyAsked h f) (sym read))
-      (λ t. o .outgoing)
-  asked (free-own k) (Taken p) e = stays (request (free-own k)) (accepted-releases .own c x k room p e .sending)
-  asked (free-incoming k) (Taken p) e = stays (request (free-incoming k)) (accepted-releases .incoming c x k room p e .sending)
+      (λ t. o .outgoing) (λ j h n r. let e = sym (o .sending) ∙ r in cc)
+  asked (free-own k) (Taken p) e =
+      let o = accepted-releases .own c x k room p e in stays (request (free-own k)) (o .sending) (ap (λ (r : Reports). r .shown) (o .reports))
+  asked (free-incoming k) (Taken p) e =
+      let o = accepted-releases .incoming c x k room p e in stays (request (free-incoming k)) (o .sending) (ap (λ (r : Reports). r .shown) (o .reports))
 
-  posted-on : (k : Call) → Holds F (called c x room k .exchange) (postSees c x room s k)
-  posted-on (block h d) = ⊎-elim (stays (block h d)) (λ w. over _ (w .now)) (sending-ends c x .judged h d room)
-  posted-on tick = stays tick (sending-ends c x .ticked)
-  posted-on put-out = stays put-out (sending-ends c x .put-out)
-  posted-on acknowledged = over _ (sending-ends c x .acknowledged)
-  posted-on failed = over _ (sending-ends c x .failed)
+  posted-on : (k : Call) → Holds F c (called c x room k .exchange) (postSees c x room s k)
+  posted-on (block h d) = moved (block h d) (call-moves c x room four (block h d))
+  posted-on tick = moved tick (call-moves c x room four tick)
+  posted-on put-out = stays put-out (sending-ends c x .put-out) (put-out-shows c x room four)
+  posted-on acknowledged = moved acknowledged (call-moves c x room four acknowledged)
+  posted-on failed = moved failed (call-moves c x room four failed)
   posted-on (request r) = asked r (answerOf c x r room .answer .asked) refl
 
   pub carries-on : (k : Call) → Carries F c (called c x room k .exchange) (postSees c x room s k)
   carries-on k = record {
-    size = posted-on k .size;
-    message = posted-on k .message;
+    holds = posted-on k;
     ranged = one-ranged c x room four (g .ranged) k;
-    fits = numbers-on k;
+    numbered = call-numbered c x room four (g .numbered) k;
+    numbers = numbers-on k;
     own = own-on k;
     way = way-on k;
   }
@@ -272,10 +352,15 @@ module _ (F : Type 0) (c : Terms) (x : Exchange) (room : List ℕ) (four : Fours
 
 pub carries-start : (c : Terms) (last : ℕ) → Carries (last ≤ 65535) c (freshExchange last) nothingPosted
 carries-start c last = record {
-  size = λ t. absurd (false≢true t);
-  message = λ f t. absurd (false≢true t);
+  holds = record {
+    size = λ t. absurd (false≢true t);
+    message = λ f t. absurd (false≢true t);
+    report = λ h n e. absurd (false≢true (ap sendingBy e));
+    function = λ p f n e. absurd (false≢true (ap sendingBy e));
+  };
   ranged = refl;
-  fits = λ f. f;
+  numbered = record { last = λ f n e. absurd (false≢true (ap sendingBy e)) };
+  numbers = numbers-fresh last;
   own = λ p less. (own.nothingSeen, watched-start side.own c p last, (λ e. absurd (apart _ own.none refl refl e), λ e. absurd (false≢true e)));
   way = λ p less. (none, (ap way (any-fresh freshIncoming 4 p), refl));
 }
@@ -287,7 +372,7 @@ carries-all F c = run-any c (postSees c) (Carries F c) (λ x lent s k w g. carri
 pub outgoing-accepted : OutgoingAccepted
 outgoing-accepted c last room fits whole ks =
     let g = carries-all (last ≤ 65535) c (atStart last room) nothingPosted ks (sound-fresh last room whole) (carries-start c last) in
-    record { size = g .size; message = g .message fits }
+    record { size = g .holds .size; message = g .holds .message fits; report = g .holds .report }
 
 -- ---- its data is what the onlooker of the areas has joined
 
@@ -311,27 +396,43 @@ kept-out NoPlace s more e = refl
 kept-out TooLong s more e = refl
 kept-out Empty s more e = refl
 
-module _ (c : Terms) (x : Exchange) (room : List ℕ) (j : Joined) (s : Post) (e : j .outgoing ≡ s .text) where
-  asked-text : (r : Request) (a : Asked) (before : ℕ → IncomingReading) (after : ℕ → OwnReading) → joinsAsked r a j .outgoing ≡ postAsked c before after r a s .text
-  asked-text (primary q d) (Taken p) before after = refl
-  asked-text (reply k f d) (Taken p) before after = refl
-  asked-text (free-own k) (Taken p) before after = e
-  asked-text (free-incoming k) (Taken p) before after = e
-  asked-text r (Refused n) before after = e
+-- where a primary or a reply is being sent
+abbrev pub TextIs : Exchange → Joined → Post → Type 0
+TextIs x j s = fromCaller (x .sending) ≡ true → j .outgoing ≡ s .text
 
-  text-on : (k : Call) → sees c x room j k .outgoing ≡ postSees c x room s k .text
+module _ (c : Terms) (x : Exchange) (room : List ℕ) (four : Fours x) (j : Joined) (s : Post) (g : TextIs x j s) where
+  -- by a call that is no request none begins
+  moved-text : (y : Exchange) → Moves x y → (o : Joined) → o .outgoing ≡ j .outgoing → TextIs y o (postReported c x y s)
+  moved-text y (still l e h) o same t = same ∙ g (ap fromCaller (sym e) ∙ t) ∙ ap (λ (p : Post). p .text) (sym (same-post c x y s e))
+  moved-text y (over l e) o same t = absurd (false≢true (ap fromCaller (sym e) ∙ t))
+  moved-text y (begins r l e h) o same t = absurd (false≢true (ap fromCaller (sym e) ∙ t))
+
+  asked-text : (r : Request) (a : Asked) (before : ℕ → IncomingReading) (after : ℕ → OwnReading) (z : Sending) → z ≡ sendingAfter r a (x .sending) → fromCaller z ≡ true
+      → joinsAsked r a j .outgoing ≡ postAsked c before after r a s .text
+  asked-text (primary q d) (Taken p) before after z e t = refl
+  asked-text (reply k f d) (Taken p) before after z e t = refl
+  asked-text (free-own k) (Taken p) before after z e t = g (ap fromCaller (sym e) ∙ t)
+  asked-text (free-incoming k) (Taken p) before after z e t = g (ap fromCaller (sym e) ∙ t)
+  asked-text r (Refused n) before after z e t = g (ap fromCaller (sym e) ∙ t)
+
+  text-on : (k : Call) → TextIs (called c x room k .exchange) (sees c x room j k) (postSees c x room s k)
   text-on (block h d) =
       let b = headerOf h in
-      kept-out (judgeOf c x h d room .answer .note) j (joins x h j d)
-      (joined-out j d (replyFor (x .own) b) (messageFor (x .incoming) b) (openAlike (x .incoming) b) (freeIncoming (x .incoming))) ∙ e
-  text-on tick = e
-  text-on put-out = e
-  text-on acknowledged = e
-  text-on failed = e
+      moved-text (judgeOf c x h d room .answer .exchange) (call-moves c x room four (block h d)) (sees c x room j (block h d))
+      (kept-out (judgeOf c x h d room .answer .note) j (joins x h j d)
+      (joined-out j d (replyFor (x .own) b) (messageFor (x .incoming) b) (openAlike (x .incoming) b) (freeIncoming (x .incoming))))
+  text-on tick = moved-text (tickOf c x .exchange) (call-moves c x room four tick) j refl
+  text-on put-out = λ t. g (ap fromCaller (sym (sending-ends c x .put-out)) ∙ t)
+  text-on acknowledged = moved-text (sentOf x .exchange) (call-moves c x room four acknowledged) j refl
+  text-on failed = moved-text (failedOf x .exchange) (call-moves c x room four failed) j refl
   text-on (request r) =
-      let a = answerOf c x r room .answer in asked-text r (a .asked) (incomingReading x) (ownReading (a .exchange))
+      let a = answerOf c x r room .answer in
+      asked-text r (a .asked) (incomingReading x) (ownReading (a .exchange)) (a .exchange .sending) (request-sends c x r room .becomes)
 
-pub text-all : (c : Terms) (t : Track) (s : Post) (ks : List Call) → t .seen .outgoing ≡ s .text → track c t ks .seen .outgoing ≡ watch c (postSees c) t s ks .text
+pub text-all : (c : Terms) (t : Track) (s : Post) (ks : List Call) → Sound (t .exchange) → TextIs (t .exchange) (t .seen) s
+    → TextIs (track c t ks .exchange) (track c t ks .seen) (watch c (postSees c) t s ks)
 unfolding track watch
-text-all c t s [] e = e
-text-all c t s (k ∷ ks) e = text-all c (next c t k) _ ks (text-on c (t .exchange) (t .room) (t .seen) s e k)
+text-all c t s [] w g = g
+text-all c t s (k ∷ ks) w g =
+    let x = t .exchange in
+    text-all c (next c t k) _ ks (sound-on c x (t .room) k w) (text-on c x (t .room) (four-places x w) (t .seen) s g k)

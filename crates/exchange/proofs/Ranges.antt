@@ -12,6 +12,8 @@ use Rattle.place.specs.Range.{ownInRange, incomingInRange}
 use Rattle.place.proofs.Ranges.{own-fits-exactly, incoming-fits-exactly}
 use Rattle.table.specs.Own.{ownAt}
 use Rattle.table.specs.Incoming.{incomingAt}
+use Rattle.reports.specs.Reports.{reportsInRange}
+use Rattle.reports.proofs.Waiting.{reports-fit-exactly}
 use Rattle.exchange.specs.Range.{ownsInRange, incomingsInRange, messageInRange, sendingInRange, exchangeInRange, SendingFitsExactly, ExchangeFitsExactly}
 use Rattle.exchange.specs.declared.Sending.the-variants as sending
 
@@ -25,6 +27,7 @@ pub sending-fits-exactly : SendingFitsExactly
 sending-fits-exactly sending.Nothing = (λ e. tt, λ f. refl)
 sending-fits-exactly (sending.Primary p n) = message-fits p n
 sending-fits-exactly (sending.Reply p f n) = message-fits p n
+sending-fits-exactly (sending.Report f n) = (λ e. tt, λ f. refl)
 
 -- four tests in a row are true exactly if each place is in its ranges
 module _ (t : ℕ → Bool) (P : ℕ → Type 0) (says : (p : ℕ) → t p ≡ true ↔ P p) where
@@ -54,13 +57,27 @@ module _ (t : ℕ → Bool) (P : ℕ → Type 0) (says : (p : ℕ) → t p ≡ t
 pub exchange-fits-exactly : ExchangeFitsExactly
 unfolding exchangeInRange ownsInRange incomingsInRange
 exchange-fits-exactly x =
-    let d = both (ownsInRange (x .own)) (incomingsInRange (x .incoming) && sendingInRange (x .sending)) in
-    let e = both (incomingsInRange (x .incoming)) (sendingInRange (x .sending)) in
+    let d = both (ownsInRange (x .own)) (incomingsInRange (x .incoming) && (sendingInRange (x .sending) && reportsInRange (x .reports))) in
+    let e = both (incomingsInRange (x .incoming)) (sendingInRange (x .sending) && reportsInRange (x .reports)) in
+    let r = both (sendingInRange (x .sending)) (reportsInRange (x .reports)) in
     let os = each (λ p. ownInRange (ownAt (x .own) p)) _ (λ p. own-fits-exactly (ownAt (x .own) p)) in
     let is = each (λ p. incomingInRange (incomingAt (x .incoming) p)) _ (λ p. incoming-fits-exactly (incomingAt (x .incoming) p)) in (
       λ t.
           let o = d .0 t in
           let i = e .0 (o .1) in
-          record { own = os .0 (o .0); incoming = is .0 (i .0); sending = sending-fits-exactly (x .sending) .0 (i .1) },
-      λ f. d .1 (os .1 (f .own), e .1 (is .1 (f .incoming), sending-fits-exactly (x .sending) .1 (f .sending))),
+          let s = r .0 (i .1) in
+          record {
+            own = os .0 (o .0);
+            incoming = is .0 (i .0);
+            sending = sending-fits-exactly (x .sending) .0 (s .0);
+            waiting = reports-fit-exactly (x .reports) .0 (s .1);
+          },
+      λ f.
+          d .1 (
+            os .1 (f .own),
+            e .1 (
+              is .1 (f .incoming),
+              r .1 (sending-fits-exactly (x .sending) .1 (f .sending), reports-fit-exactly (x .reports) .1 (f .waiting)),
+            ),
+          ),
     )

@@ -60,6 +60,7 @@ pub sends : (s : Sending) → sendingBy s ≡ true ↔ (s ≢ sending.Nothing)
 sends sending.Nothing = (λ t. absurd (false≢true t), λ n. absurd (n refl))
 sends (sending.Primary p n) = (λ t e. true≢false (ap sendingBy e), λ m. refl)
 sends (sending.Reply p f n) = (λ t e. true≢false (ap sendingBy e), λ m. refl)
+sends (sending.Report f n) = (λ t e. true≢false (ap sendingBy e), λ m. refl)
 
 -- 8
 pub own-is-free : (s : OwnStage) → freeBy (standingAt s) ≡ true ↔ (s ≡ own.Free)

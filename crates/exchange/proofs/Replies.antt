@@ -3,7 +3,7 @@ use Prim.Native.Nat.{ℕ, _<_}
 use mathlib.Core.Path.{_≡_, refl, sym, ap, _∙_}
 use mathlib.Core.Bool.{true, false, cond, not, _&&_, false≢true, true≢false}
 use mathlib.Core.List.{List}
-use mathlib.Core.Logic.{_⊎_, ⊎-elim}
+use mathlib.Core.Logic.{_⊎_, inl, inr, ⊎-elim}
 use native.Mathlib.Omega.{arith}
 use lib.Dec.{eqb}
 use lib.ListN.{length, getD, set}
@@ -24,13 +24,13 @@ use Rattle.place.specs.declared.IncomingStage.the-variants as arrival
 use Rattle.place.specs.declared.Incoming.{Incoming}
 use Rattle.table.proofs.Tables.{incoming-table}
 use Rattle.exchange.specs.Exchange.{incomingPlace, putOwn, putIncoming, withSending, sentFrom, putReplied, savedNow}
-use Rattle.exchange.specs.Tick.{tickOf}
-use Rattle.exchange.specs.Send.{putOutBy, endedOwn, endedReply, sentBy, failedBy}
+use Rattle.exchange.specs.Tick.{passedOf, tickOf}
+use Rattle.exchange.specs.Send.{putOutBy, endedOwn, endedReply, endedReport, sentBy, failedBy}
 use Rattle.exchange.specs.Judge.{thrown, replyBlock, messageBlock, beginsAt, judgeOf}
 use Rattle.exchange.specs.Reading.{wanted, replyStageAt, incomingReading, stageBy, hasEnded}
 use Rattle.exchange.specs.Request.{sendingBy, isSending, notReady, refusedBy, refused, claimedAt, replyAccepted, Request, answerOf}
 use Rattle.exchange.specs.Rules.{Fours}
-use Rattle.exchange.specs.BeingSent.{Withdrawn}
+use Rattle.exchange.specs.BeingSent.{NoneOrReport, none as none', report, Withdrawn, ReportBegins}
 use Rattle.exchange.specs.History as exchange
 use Rattle.exchange.specs.Watching.{takenAt, replyFrom}
 use Rattle.exchange.specs.Underway.{Way, none, onway, sent, failed, endWay, wayAt, way, isOnway, wayOf, ReplyRead, wayTaken, replySees, ReplyAt, ReplyWatchedOn, ReplyWatched}
@@ -44,7 +44,7 @@ use Rattle.exchange.proofs.Cases.{by-judge, by-request}
 use Rattle.exchange.proofs.Tables.{set-one}
 use Rattle.exchange.proofs.Repeated.{any-fresh}
 use Rattle.exchange.proofs.Accepting.{complete-at}
-use Rattle.exchange.proofs.BeingSent.{sending-ends}
+use Rattle.exchange.proofs.BeingSent.{ended-none, sending-ends}
 use Rattle.exchange.proofs.OneCall.{same-either}
 use Rattle.exchange.proofs.Runs.{four-places, sound-fresh, run-any}
 
@@ -144,12 +144,19 @@ pub nothing-replied : (p : ℕ) (q : Sending) → sendingBy q ≡ false → repl
 nothing-replied p sending.Nothing n = refl
 nothing-replied p (sending.Primary q k) n = refl
 nothing-replied p (sending.Reply q f k) n = absurd (true≢false n)
+nothing-replied p (sending.Report f k) n = refl
+
+-- a report is none either
+none-replied : (p : ℕ) (z : Sending) → NoneOrReport z → replyFrom z p ≡ false
+none-replied p _ none' = refl
+none-replied p _ (report f n) = refl
 
 -- a primary is no reply of ours
 primary-replied : (p : ℕ) (q : Sending) (k : ℕ) → sentFrom q k ≡ true → replyFrom q p ≡ false
 primary-replied p sending.Nothing k e = refl
 primary-replied p (sending.Primary q n) k e = refl
 primary-replied p (sending.Reply q f n) k e = absurd (false≢true e)
+primary-replied p (sending.Report f n) k e = refl
 
 module _ (c : Terms) (x : Exchange) (room : List ℕ) (four : Fours x) (p : ℕ) (within : p < 4) (s : Way) (w : ReplyAt p x s) where
   -- where nothing is being sent, no reply is on its way
@@ -172,7 +179,7 @@ module _ (c : Terms) (x : Exchange) (room : List ℕ) (four : Fours x) (p : ℕ)
       (λ q gone f e r m o v u t. put-same q _ (begun-way (incomingPlace x q .header) (incomingPlace x q .stage) (headerOf h) (length d))) (λ n t r m. w .0)
 
   tick-way : way (incomingPlace (tickOf c x .exchange) p) ≡ s
-  unfolding tickOf
+  unfolding passedOf
   tick-way = ap way (incoming-table (x .incoming) c (four .incoming) .1 .each p within) ∙ ticked-way c (incomingPlace x p .header) (incomingPlace x p .stage) ∙ w .0
 
   -- a block of ours that is out is of no account to an incoming place
@@ -181,11 +188,17 @@ module _ (c : Terms) (x : Exchange) (room : List ℕ) (four : Fours x) (p : ℕ)
   put-out-way sending.Nothing = w .0
   put-out-way (sending.Primary q n) = w .0
   put-out-way (sending.Reply q f n) = w .0
+  put-out-way (sending.Report f n) = w .0
 
-  -- what a block ends is no reply
-  reply-goes-on : (z : Sending) → (z ≡ x .sending) ⊎ Withdrawn (x .sending) z → replyFrom z p ≡ replyFrom (x .sending) p
+  -- a report that begins is no reply
+  reply-stays : (z : Sending) → (z ≡ x .sending) ⊎ ReportBegins (x .sending) z → replyFrom z p ≡ replyFrom (x .sending) p
+  reply-stays z = ⊎-elim (ap (λ (q : Sending). replyFrom q p)) (λ g. none-replied p z (g .now) ∙ sym (ap (λ (q : Sending). replyFrom q p) (g .was)))
+
+  -- nor is what a block ends
+  reply-goes-on : (z : Sending) → (z ≡ x .sending) ⊎ Withdrawn (x .sending) z ⊎ ReportBegins (x .sending) z → replyFrom z p ≡ replyFrom (x .sending) p
   reply-goes-on z =
-      ⊎-elim (ap (λ (q : Sending). replyFrom q p)) (λ g. ap (λ (q : Sending). replyFrom q p) (g .now) ∙ sym (primary-replied p (x .sending) (g .place) (g .was)))
+      ⊎-elim (λ e. reply-stays z (inl e))
+      (⊎-elim (λ g. none-replied p z (g .now) ∙ sym (primary-replied p (x .sending) (g .place) (g .was))) (λ g. reply-stays z (inr g)))
 
   -- the reply on its way is this place's
   on-its-way-here : (q f n : ℕ) → x .sending ≡ sending.Reply q f n → q ≡ p → isOnway (way (incomingPlace x q)) ≡ true
@@ -193,21 +206,23 @@ module _ (c : Terms) (x : Exchange) (room : List ℕ) (four : Fours x) (p : ℕ)
       ap (λ (k : ℕ). isOnway (way (incomingPlace x k))) z ∙ ap isOnway (w .0) ∙ w .1 ∙ ap (λ (y : Sending). replyFrom y p) e ∙ eq-eqb q p z
 
   acknowledged-way : (q : Sending) → x .sending ≡ q → way (incomingPlace (sentBy q x .exchange) p) ≡ cond (replyFrom q p) sent s
-  unfolding endedOwn endedReply putOwn putIncoming withSending
+  unfolding endedOwn endedReply endedReport putOwn putIncoming withSending
   acknowledged-way sending.Nothing e = w .0
   acknowledged-way (sending.Primary q n) e = w .0
   acknowledged-way (sending.Reply q f n) e = put-step q _ sent (λ z. ended-way end.Sent (incomingPlace x q .header) (incomingPlace x q .stage) (on-its-way-here q f n e z))
+  acknowledged-way (sending.Report f n) e = w .0
 
   lost-way : (q : Sending) → x .sending ≡ q → way (incomingPlace (failedBy q x .exchange) p) ≡ cond (replyFrom q p) failed s
-  unfolding endedOwn endedReply putOwn putIncoming withSending
+  unfolding endedOwn endedReply endedReport putOwn putIncoming withSending
   lost-way sending.Nothing e = w .0
   lost-way (sending.Primary q n) e = w .0
   lost-way (sending.Reply q f n) e = put-step q _ failed (λ z. ended-way end.Failed (incomingPlace x q .header) (incomingPlace x q .stage) (on-its-way-here q f n e z))
+  lost-way (sending.Report f n) e = w .0
 
   -- the end of a send, z being sent then, leaves no reply on its way
-  over : (y : Way) (z : Sending) → z ≡ sending.Nothing → isOnway y ≡ false → isOnway (cond (replyFrom (x .sending) p) y s) ≡ replyFrom z p
+  over : (y : Way) (z : Sending) → NoneOrReport z → isOnway y ≡ false → isOnway (cond (replyFrom (x .sending) p) y s) ≡ replyFrom z p
   over y z e n =
-      either (replyFrom (x .sending) p) (λ t. isOnway (cond t y s) ≡ false) (λ t. n) (λ t. w .1 ∙ t) ∙ sym (ap (λ (q : Sending). replyFrom q p) e)
+      either (replyFrom (x .sending) p) (λ t. isOnway (cond t y s) ≡ false) (λ t. n) (λ t. w .1 ∙ t) ∙ sym (none-replied p z e)
 
   -- a place that is released
   released : (q : ℕ) → isOnway (way (incomingPlace x q)) ≡ false → isOnway (cond (eqb q p) none s) ≡ replyFrom (x .sending) p
@@ -231,10 +246,10 @@ module _ (c : Terms) (x : Exchange) (room : List ℕ) (four : Fours x) (p : ℕ)
 
   right-after : (k : exchange.Call) → ReplyAt p (exchange.called c x room k .exchange) (replySees c p x room s k)
   right-after (exchange.block h d) = (block-way h d, w .1 ∙ sym (reply-goes-on _ (sending-ends c x .judged h d room)))
-  right-after exchange.tick = (tick-way, w .1 ∙ sym (ap (λ (q : Sending). replyFrom q p) (sending-ends c x .ticked)))
+  right-after exchange.tick = (tick-way, w .1 ∙ sym (reply-stays _ (sending-ends c x .ticked)))
   right-after exchange.put-out = (put-out-way (x .sending), w .1 ∙ sym (ap (λ (q : Sending). replyFrom q p) (sending-ends c x .put-out)))
-  right-after exchange.acknowledged = (acknowledged-way (x .sending) refl, over sent _ (sending-ends c x .acknowledged) refl)
-  right-after exchange.failed = (lost-way (x .sending) refl, over failed _ (sending-ends c x .failed) refl)
+  right-after exchange.acknowledged = (acknowledged-way (x .sending) refl, over sent _ (ended-none _ _ (sending-ends c x .acknowledged)) refl)
+  right-after exchange.failed = (lost-way (x .sending) refl, over failed _ (ended-none _ _ (sending-ends c x .failed)) refl)
   right-after (exchange.request r) = request-right r
 
 pub reply-watched-on : ReplyWatchedOn

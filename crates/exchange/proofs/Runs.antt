@@ -83,6 +83,10 @@ pub data Each (K : Call → Type 0) : List Call → Type 0 where
   none : Each K []
   one-more : {k : Call} {ks : List Call} → K k → Each K ks → Each K (k ∷ ks)
 
+pub each-more : (K : Call → Type 0) (ks js : List Call) → Each K ks → Each K js → Each K (ks ++ js)
+each-more K [] js none w = w
+each-more K (k ∷ ks) js (one-more i is) w = one-more i (each-more K ks js is w)
+
 pub anyone : (ks : List Call) → Each (λ k. Unit {0}) ks
 anyone [] = none
 anyone (k ∷ ks) = one-more tt (anyone ks)

@@ -12,8 +12,8 @@ use Rattle.settings.specs.declared.terms.Terms.{Terms}
 use Rattle.wire.proofs.Choice.{chosen, either-of}
 use Rattle.place.specs.Message.{Routed}
 use Rattle.exchange.specs.Exchange.{freshExchange, putOwn, putIncoming, withSending}
-use Rattle.exchange.specs.Tick.{tickOf}
-use Rattle.exchange.specs.Send.{putOutBy, endedOwn, endedReply, sentBy, failedBy}
+use Rattle.exchange.specs.Tick.{passedOf, tickOf}
+use Rattle.exchange.specs.Send.{putOutBy, endedOwn, endedReply, endedReport, sentBy, failedBy}
 use Rattle.exchange.specs.Request.{refused, refusedBy, claimedAt, replyAccepted, Request, answerOf}
 use Rattle.exchange.specs.Judge.{judgeOf}
 use Rattle.exchange.specs.Rules.{Fours, Duplicate, Ruled, duplicate, noted}
@@ -36,23 +36,26 @@ unfolding putOwn
 put-out-saves sending.Nothing x = refl
 put-out-saves (sending.Primary p n) x = refl
 put-out-saves (sending.Reply p f n) x = refl
+put-out-saves (sending.Report f n) x = refl
 
 -- however the message's sending ended
 pub sent-saves : (z : Sending) (x : Exchange) → sentBy z x .exchange .saved ≡ x .saved
-unfolding endedOwn endedReply withSending putOwn putIncoming
+unfolding endedOwn endedReply endedReport withSending putOwn putIncoming
 sent-saves sending.Nothing x = refl
 sent-saves (sending.Primary p n) x = refl
 sent-saves (sending.Reply p f n) x = refl
+sent-saves (sending.Report f n) x = refl
 
 failed-saves : (z : Sending) (x : Exchange) → failedBy z x .exchange .saved ≡ x .saved
-unfolding endedOwn endedReply withSending putOwn putIncoming
+unfolding endedOwn endedReply endedReport withSending putOwn putIncoming
 failed-saves sending.Nothing x = refl
 failed-saves (sending.Primary p n) x = refl
 failed-saves (sending.Reply p f n) x = refl
+failed-saves (sending.Report f n) x = refl
 
 -- 0.1 s passed, whatever timers run
 tick-saves : (c : Terms) (x : Exchange) → tickOf c x .exchange .saved ≡ x .saved
-unfolding tickOf
+unfolding passedOf
 tick-saves c x = refl
 
 -- something is asked for
@@ -83,7 +86,7 @@ saved-on c x room s (block h d) w =
     let j = judgeOf c x h d room in
     let l = judge-leaves c x h d room in
     by-saved (IsSaved (j .answer .exchange .saved)) (noted j) s h
-    (⊎-elim (λ e. stays s _ _ (ap (λ (y : Exchange). y .saved) (l .misrouted e .state)) w) (λ e. stays s _ _ (ap (λ (y : Exchange). y .saved) (l .duplicate e .state)) w))
+    (⊎-elim (λ e. stays s _ _ (l .misrouted e .saved) w) (λ e. stays s _ _ (l .duplicate e .saved) w))
     (λ n. let e = l .saves (λ a. n (inl a)) (λ a. n (inr a)) in (ap (λ (v : Saved). v .any) e, ap (λ (v : Saved). v .header) e))
 saved-on c x room s tick w = stays s _ _ (tick-saves c x) w
 saved-on c x room s put-out w = stays s _ _ (put-out-saves (x .sending) x) w

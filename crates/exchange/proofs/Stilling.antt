@@ -20,7 +20,10 @@ use Rattle.table.specs.Own.{ownAt}
 use Rattle.table.specs.Incoming.{incomingAt}
 use Rattle.table.proofs.Fours.{map-four}
 use Rattle.exchange.specs.Exchange.{gotVerdict, latestAfter}
-use Rattle.exchange.specs.Tick.{wasDropped, tickOf, timedAt, ownTimed, ownsTimed, incomingsTimed, isStill, StillTick}
+use Rattle.exchange.specs.Reports.{withOutbox}
+use Rattle.exchange.specs.Tick.{wasDropped, passedOf, gotNoReply, lateAt, reportsLate, timedAt, ownTimed, ownsTimed, incomingsTimed, isStill, StillTick, lateOver}
+use Rattle.exchange.specs.Send.{unflagged}
+use Rattle.exchange.specs.declared.Outbox.{Outbox}
 use Rattle.exchange.specs.declared.Exchange.{Exchange}
 use Rattle.exchange.proofs.Flagging.{stays}
 
@@ -61,7 +64,7 @@ not-dropped i e = rw e refl
 
 -- ---- four places
 
-none-of : (a b : Bool) → a || b ≡ false → (a ≡ false) × (b ≡ false)
+pub none-of : (a b : Bool) → a || b ≡ false → (a ≡ false) × (b ≡ false)
 none-of true b e = absurd (false≢true (sym e))
 none-of false b e = (refl, e)
 
@@ -105,9 +108,10 @@ same-four : {A : Type 0} (f : A → A) (d : A) (l : List A) → length l ≡ 4 �
     → f (getD l 3 d) ≡ getD l 3 d → map f l ≡ l
 same-four f d l e p q r s = sym (map-four f d l e) ∙ rw (p, q, r, s) (four-same d l e)
 
-pub still-tick : StillTick
-unfolding tickOf
-still-tick c x four fours e =
+-- what the places make of it
+still-passed : (c : Terms) (x : Exchange) → length (x .own) ≡ 4 → length (x .incoming) ≡ 4 → isStill x ≡ true → passedOf c x ≡ unflagged x
+unfolding passedOf
+still-passed c x four fours e =
     let s = still x e in
     let os = x .own in
     let is = x .incoming in
@@ -130,3 +134,21 @@ still-tick c x four fours e =
       not-dropped (incomingAt is 2) (s .in2),
       not-dropped (incomingAt is 3) (s .in3),
     ))
+
+-- a place that gets no verdict has nothing reported
+pub not-late : (c : Terms) (os qs : List Own) (latest p : ℕ) (b : Outbox) → gotVerdict (ownAt os p) (ownAt qs p) ≡ false → lateAt c os qs latest p b ≡ b
+unfolding lateAt gotNoReply
+not-late c os qs latest p b e = rw e refl
+
+none-late : (c : Terms) (os : List Own) (latest p : ℕ) (b : Outbox) → lateAt c os os latest p b ≡ b
+none-late c os latest p b = not-late c os os latest p b (no-verdict (ownAt os p))
+
+pub still-tick : StillTick
+unfolding lateOver
+still-tick c x four fours e =
+    ap (reportsLate c x) (still-passed c x four fours e)
+    ∙ ap (λ (b : Outbox). unflagged (withOutbox x b))
+    (none-late c (x .own) (x .numbers .latest) 3 _
+    ∙ none-late c (x .own) (x .numbers .latest) 2 _
+    ∙ none-late c (x .own) (x .numbers .latest) 1 _
+    ∙ none-late c (x .own) (x .numbers .latest) 0 _)

@@ -33,9 +33,10 @@ use Rattle.table.specs.declared.Found.the-variants.{Nowhere}
 use Rattle.table.proofs.Finding.{message-lowest, open-alike-lowest}
 use Rattle.exchange.specs.Flags.{noMarks, noFlags, verdictFlag, incomingFlags}
 use Rattle.exchange.specs.Exchange.{ownPlace, incomingPlace, gotVerdict, putOwn, putIncoming, withSending, putReplied, savedNow}
-use Rattle.exchange.specs.Tick.{wasDropped, tickOf}
-use Rattle.exchange.specs.Send.{putOutBy, endedOwn, endedReply, sentBy, failedBy}
-use Rattle.exchange.specs.Judge.{Judging, thrown, lastBy, spoiltBy, replyBlock, messageBlock, beginsAt, judgeOf}
+use Rattle.exchange.specs.Reports.{withOutbox}
+use Rattle.exchange.specs.Tick.{wasDropped, passedOf, tickOf}
+use Rattle.exchange.specs.Send.{putOutBy, endedOwn, endedReply, endedReport, sentBy, failedBy}
+use Rattle.exchange.specs.Judge.{Judging, thrown, lastBy, spoiltBy, replyBlock, messageBlock, beginsAt, rulesOf, judgeOf}
 use Rattle.exchange.specs.Rules.{Fours}
 use Rattle.exchange.specs.Theorems.{flagAt, becameGiven, becameComplete, Dropped, ThrowsOut, noneThrown, Flagged, FlagsExactly}
 use Rattle.exchange.proofs.Finding.{found}
@@ -48,9 +49,17 @@ use Rattle.exchange.proofs.Areas.{taken-place, begun-at}
 use Rattle.exchange.proofs.Flagging.{stays, unmarked, marked-here, Forced, unflagged, own-flagged, incoming-flagged}
 use Rattle.exchange.specs.declared.Note.{Note}
 use Rattle.exchange.specs.declared.Note.the-variants.{Misrouted, Duplicate}
+use Rattle.exchange.specs.declared.Flags.{Flags}
+use Rattle.exchange.specs.declared.Outbox.{Outbox}
 use Rattle.exchange.specs.declared.Sending.{Sending}
 use Rattle.exchange.specs.declared.Sending.the-variants as sending
 use Rattle.exchange.specs.declared.Exchange.{Exchange}
+
+-- ---- a report
+
+-- it raises no flag
+boxed-flags : (x y : Exchange) (b : Outbox) (T : ℕ → Type 0) (raised : Flags) → Flagged x y T raised → Flagged x (withOutbox y b) T raised
+boxed-flags x y b T raised w = record { verdicts = w .verdicts; completed = w .completed; dropped = w .dropped }
 
 -- ---- a block
 
@@ -141,9 +150,9 @@ module _ (c : Terms) (x : Exchange) (four : Fours x) (h d : List ℕ) where
   unfolding thrown
   thrown-after n room = unflagged x x (ThrowsOut c x h d) refl refl
 
-  judged-after : (room : List ℕ) → After (judgeOf c x h d room)
+  rules-after : (room : List ℕ) → After (rulesOf c x h d room)
   unfolding thrown replyBlock messageBlock beginsAt savedNow putOwn putReplied putIncoming withSending
-  judged-after room =
+  rules-after room =
       let b = headerOf h in
       let T = ThrowsOut c x h d in
       by-judge c x h d room After (λ e. thrown-after Misrouted room) (λ e u. thrown-after Duplicate room)
@@ -163,7 +172,7 @@ module _ (c : Terms) (x : Exchange) (four : Fours x) (h d : List ℕ) where
       (begun-at b d (i .header) (i .stage)
       (λ a.
       let raised = incomingFlags p (lastBy (fateOf b 0 (length d))) gone in
-      let y : Exchange = record { own = x .own; incoming = set (x .incoming) p a; saved = record { any = true; header = h }; numbers = x .numbers; sending = x .sending } in
+      let y : Exchange = record { own = x .own; incoming = set (x .incoming) p a; saved = record { any = true; header = h }; numbers = x .numbers; sending = x .sending; reports = x .reports } in
       Forced T raised → Flagged x y T raised)
       (w .1)
       (incoming-flagged x _ T p _ _ gone (four .incoming) refl refl (begun-complete i (open-incomplete (i .stage) (w .1)) b (fateOf b 0 (length d)) (ap spoiltBy e ∙ s))
@@ -171,7 +180,7 @@ module _ (c : Terms) (x : Exchange) (four : Fours x) (h d : List ℕ) where
       (λ n t r m. unflagged x _ T refl refl)
 
   judged-flags : (room : List ℕ) → Flagged x (judgeOf c x h d room .answer .exchange) (ThrowsOut c x h d) (judgeOf c x h d room .answer .flags)
-  judged-flags room = judged-after room (out-flagged room)
+  judged-flags room = boxed-flags x (rulesOf c x h d room .answer .exchange) _ _ _ (rules-after room (out-flagged room))
 
 -- ---- a tick
 
@@ -194,7 +203,7 @@ tick-incomplete c h (arrival.Replying n) = refl
 tick-incomplete c h (arrival.Replied n e) = refl
 
 tick-flags : (c : Terms) (x : Exchange) → Flagged x (tickOf c x .exchange) noneThrown (tickOf c x .flags)
-unfolding tickOf gotVerdict becameGiven wasDropped
+unfolding passedOf gotVerdict becameGiven wasDropped
 tick-flags c x =
     record {
       verdicts = four-at (λ p. gotVerdict (ownPlace x p) (ownAt (map (ownTick c) (x .own)) p));
@@ -263,18 +272,21 @@ module _ (x : Exchange) (own-four : length (x .own) ≡ 4) (incoming-four : leng
   put-out-flags sending.Nothing = unflagged x x noneThrown refl refl (λ p k t. absurd t)
   put-out-flags (sending.Primary p n) = out-flags p _ refl refl
   put-out-flags (sending.Reply p f n) = unflagged x x noneThrown refl refl (λ p k t. absurd t)
+  put-out-flags (sending.Report f n) = unflagged x x noneThrown refl refl (λ p k t. absurd t)
 
   sent-flags : (q : Sending) → Flagged x (sentBy q x .exchange) noneThrown (sentBy q x .flags)
-  unfolding endedOwn endedReply putOwn withSending
+  unfolding endedOwn endedReply endedReport putOwn withSending
   sent-flags sending.Nothing = unflagged x x noneThrown refl refl (λ p k t. absurd t)
   sent-flags (sending.Primary p n) = own-flagged x _ noneThrown p (ownSent (ownPlace x p)) own-four refl refl (λ p k t. absurd t)
   sent-flags (sending.Reply p f n) = reply-flags end.Sent p
+  sent-flags (sending.Report f n) = unflagged x _ noneThrown refl refl (λ p k t. absurd t)
 
   failed-flags : (q : Sending) → Flagged x (failedBy q x .exchange) noneThrown (failedBy q x .flags)
-  unfolding endedOwn endedReply putOwn withSending
+  unfolding endedOwn endedReply endedReport putOwn withSending
   failed-flags sending.Nothing = unflagged x x noneThrown refl refl (λ p k t. absurd t)
   failed-flags (sending.Primary p n) = own-flagged x _ noneThrown p (ownFailed (ownPlace x p)) own-four refl refl (λ p k t. absurd t)
   failed-flags (sending.Reply p f n) = reply-flags end.Failed p
+  failed-flags (sending.Report f n) = unflagged x _ noneThrown refl refl (λ p k t. absurd t)
 
 pub flags-exactly : FlagsExactly
 flags-exactly c x own-four incoming-four =
@@ -282,6 +294,6 @@ flags-exactly c x own-four incoming-four =
       judged = judged-flags c x (record { own = own-four; incoming = incoming-four });
       ticked = tick-flags c x;
       put-out = put-out-flags x own-four incoming-four (x .sending);
-      sent = sent-flags x own-four incoming-four (x .sending);
-      failed = failed-flags x own-four incoming-four (x .sending);
+      sent = boxed-flags x (sentBy (x .sending) x .exchange) _ _ _ (sent-flags x own-four incoming-four (x .sending));
+      failed = boxed-flags x (failedBy (x .sending) x .exchange) _ _ _ (failed-flags x own-four incoming-four (x .sending));
     }

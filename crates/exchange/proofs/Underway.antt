@@ -28,20 +28,22 @@ use Rattle.table.specs.Own.{replyFor}
 use Rattle.table.proofs.Finding.{free-own-lowest}
 use Rattle.exchange.specs.Exchange.{ownPlace, putOwn, putIncoming, withSending, sentFrom, sentBehind, putReplied, savedNow}
 use Rattle.exchange.specs.Note.{noteBy}
-use Rattle.exchange.specs.Judge.{thrown, replyBlock, messageBlock, beginsAt, judgeOf}
+use Rattle.exchange.specs.Judge.{thrown, replyBlock, messageBlock, beginsAt, rulesOf, judgeOf}
 use Rattle.exchange.specs.Request.{sendingBy, isSending, refusedBy, refused, claimedAt, replyAccepted, Request, answerOf}
 use Rattle.exchange.specs.Rules.{Fours, LowestAt, OfReply, OfReplyToSent}
 use Rattle.exchange.specs.History.{Call, block, tick, put-out, acknowledged, failed, request, called, Track, track, atStart}
 use Rattle.exchange.specs.Releases as side
 use Rattle.exchange.specs.Watching.{foundAt, takenAt, toldBy, ownTaken, ownSees, OwnAt, watch}
+use Rattle.exchange.specs.BeingSent.{NoneOrReport, none, report}
 use Rattle.exchange.specs.Underway.{OnItsWay, Underway, UnderwayOn, UnderwayExactly, ProvedExactly}
 use Rattle.exchange.specs.declared.Sending.{Sending}
 use Rattle.exchange.specs.declared.Sending.the-variants as sending
 use Rattle.exchange.specs.declared.Exchange.{Exchange}
+use Rattle.exchange.proofs.Unreported.{judged-sends, ticked-sends}
 use Rattle.exchange.proofs.Cases.{by-behind, by-judge, by-request}
 use Rattle.exchange.proofs.Judging.{is-new, reply-says, lowest-reply}
 use Rattle.exchange.proofs.Leaving.{replied-there}
-use Rattle.exchange.proofs.BeingSent.{sending-ends}
+use Rattle.exchange.proofs.BeingSent.{ended-none, sending-ends}
 use Rattle.exchange.proofs.OneCall.{same-either}
 use Rattle.exchange.proofs.Runs.{Sound, four-places, four-of, sound-fresh, run-any}
 use Rattle.exchange.proofs.Watching.{own-watched-on, watched-start}
@@ -120,9 +122,15 @@ nothing-sent : (p : ℕ) (q : Sending) → sendingBy q ≡ false → sentFrom q 
 nothing-sent p sending.Nothing n = refl
 nothing-sent p (sending.Primary q k) n = absurd (true≢false n)
 nothing-sent p (sending.Reply q f k) n = refl
+nothing-sent p (sending.Report f k) n = refl
+
+-- a report is no primary of an own place
+none-sent : (p : ℕ) (z : Sending) → NoneOrReport z → sentFrom z p ≡ false
+none-sent p _ none = refl
+none-sent p _ (report f n) = refl
 
 -- nor is it once a block of the reply in that place has come; one in another place leaves it
-past-here : (z : Sending) (p : ℕ) → sentFrom (sentBehind z p) p ≡ false
+pub past-here : (z : Sending) (p : ℕ) → sentFrom (sentBehind z p) p ≡ false
 past-here z p = by-behind (λ y. sentFrom y p ≡ false) z p (λ e. refl) (λ e. e)
 
 past-other : (z : Sending) (q p : ℕ) → eqb q p ≡ false → sentFrom (sentBehind z q) p ≡ sentFrom z p
@@ -132,6 +140,7 @@ past-other (sending.Primary k m) q p n =
     by-behind (λ y. sentFrom y p ≡ eqb k p) (sending.Primary k m) q
     (λ e. sym (ap (λ (j : ℕ). eqb j p) (eqb-true k q e) ∙ n)) (λ e. refl)
 past-other (sending.Reply k f m) q p n = refl
+past-other (sending.Report f m) q p n = refl
 
 -- a place that is free
 free-standing : (z : Standing) → freeBy z ≡ true → z ≡ standing.Free
@@ -145,12 +154,11 @@ module _ (c : Terms) (x : Exchange) (room : List ℕ) (four : Fours x) (p : ℕ)
   idle n e = false≢true (sym (nothing-sent p (x .sending) n) ∙ u .0 e)
 
   -- the end of a send: z is what is being sent then, `after` what is seen where the request was on its way
-  over : (after : own.Seen) (z : Sending) → z ≡ sending.Nothing → (OnItsWay (s .request) → OnItsWay (after .request) → ⊥)
+  over : (after : own.Seen) (z : Sending) → NoneOrReport z → (OnItsWay (s .request) → OnItsWay (after .request) → ⊥)
       → Agrees p z (cond (sentFrom (x .sending) p) after s .request)
   over after z e gone =
-      subst (λ q. Agrees p q (cond (sentFrom (x .sending) p) after s .request)) (sym e)
-      (either (sentFrom (x .sending) p) (λ t. Agrees p sending.Nothing (cond t after s .request))
-      (λ t. not-sent p sending.Nothing (after .request) (gone (u .1 t)) refl) (λ t. not-sent p sending.Nothing (s .request) (λ r. false≢true (sym t ∙ u .0 r)) refl))
+      either (sentFrom (x .sending) p) (λ t. Agrees p z (cond t after s .request))
+      (λ t. not-sent p z (after .request) (gone (u .1 t)) (none-sent p z e)) (λ t. not-sent p z (s .request) (λ r. false≢true (sym t ∙ u .0 r)) (none-sent p z e))
 
   -- its last block is out: it goes on
   went-out : (r : own.Request) → s .request ≡ r → OnItsWay (own.wentOut r s .request) ↔ OnItsWay (s .request)
@@ -176,9 +184,9 @@ module _ (c : Terms) (x : Exchange) (room : List ℕ) (four : Fours x) (p : ℕ)
   proven own.proved o = apart _ own.proved refl refl
   proven own.lost o = apart _ own.lost refl refl
 
-  block-agrees : (h d : List ℕ) → Underway p (judgeOf c x h d room .answer .exchange) (ownSees c p x room s (block h d))
+  rules-agree : (h d : List ℕ) → Underway p (rulesOf c x h d room .answer .exchange) (ownSees c p x room s (block h d))
   unfolding thrown replyBlock messageBlock beginsAt putReplied putIncoming withSending savedNow
-  block-agrees h d =
+  rules-agree h d =
       let b = headerOf h in
       by-judge c x h d room
       (λ j. Agrees p (j .answer .exchange .sending) (cond (foundAt (replyFor (x .own) b) p) (own.answered (toldBy (j .answer .note)) s b (length d)) s .request))
@@ -195,6 +203,10 @@ module _ (c : Terms) (x : Exchange) (room : List ℕ) (four : Fours x) (p : ℕ)
       (subst (λ j. sentFrom (sentBehind (x .sending) j) p ≡ false) (sym same) (past-here (x .sending) p)))
       (λ t. subst (λ i. OnItsWay (s .request) ↔ (i ≡ true)) (sym (past-other (x .sending) q p t)) u)))
       (λ q e r m. rw r u) (λ q gone f e r m o v a t. rw r u) (λ n t r m. rw r u)
+
+  block-agrees : (h d : List ℕ) → Underway p (judgeOf c x h d room .answer .exchange) (ownSees c p x room s (block h d))
+  block-agrees h d =
+      judged-sends (λ z. Agrees p z (ownSees c p x room s (block h d) .request)) (λ a f n. a) c (x .sending) h (rulesOf c x h d room .answer) (rules-agree h d)
 
   -- a primary that is accepted, at place i
   opened : (i n : ℕ) (h : Header) → (OnItsWay (s .request) → ⊥) → (i ≡ p → s .request ≡ own.none) → Agrees p (sending.Primary i n) (cond (eqb i p) (own.asked (s .request) s h) s .request)
@@ -227,14 +239,14 @@ module _ (c : Terms) (x : Exchange) (room : List ℕ) (four : Fours x) (p : ℕ)
 
   underway-after : (k : Call) → Underway p (called c x room k .exchange) (ownSees c p x room s k)
   underway-after (block h d) = block-agrees h d
-  underway-after tick = subst (λ q. Agrees p q (s .request)) (sym (sending-ends c x .ticked)) u
+  underway-after tick = ticked-sends (λ z. Agrees p z (s .request)) (λ a f n. a) c x u
   underway-after put-out = subst (λ q. Agrees p q (ownSees c p x room s put-out .request)) (sym (sending-ends c x .put-out)) goes-out
   underway-after acknowledged =
       let is : own.Request → own.Request = λ r. own.acked r s .request in
-      over (own.acked (s .request) s) _ (sending-ends c x .acknowledged) (λ a. apart _ own.acknowledged refl (⊎-elim (ap is) (ap is) a))
+      over (own.acked (s .request) s) _ (ended-none _ _ (sending-ends c x .acknowledged)) (λ a. apart _ own.acknowledged refl (⊎-elim (ap is) (ap is) a))
   underway-after failed =
       let is : own.Request → own.Request = λ r. own.gaveUp r s .request in
-      over (own.gaveUp (s .request) s) _ (sending-ends c x .failed) (λ a. apart _ own.lost refl (⊎-elim (ap is) (ap is) a))
+      over (own.gaveUp (s .request) s) _ (ended-none _ _ (sending-ends c x .failed)) (λ a. apart _ own.lost refl (⊎-elim (ap is) (ap is) a))
   underway-after (request r) = request-agrees r
 
 pub underway-on : UnderwayOn

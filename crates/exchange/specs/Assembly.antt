@@ -28,6 +28,7 @@ use Rattle.place.specs.declared.Standing.the-variants.{Given}
 use Rattle.exchange.specs.Note.{noteNumber}
 use Rattle.exchange.specs.Flags.{noFlags, verdictFlag, incomingFlags}
 use Rattle.exchange.specs.Exchange.{ownPlace, incomingPlace, sentFrom}
+use Rattle.exchange.specs.Reports.{outboxOf}
 use Rattle.exchange.specs.Tick.{tickOf}
 use Rattle.exchange.specs.Send.{replyTo}
 use Rattle.exchange.specs.Judge.{Judging, judgeOf}
@@ -106,6 +107,20 @@ ticksAlone c pauses d x = passes c x (ticksBefore pauses (blockCount (length d))
 abbrev pub WithinT4 : Terms → (ℕ → ℕ) → List ℕ → Type 0
 WithinT4 c pauses d = (j : ℕ) → 2 ≤ j → j ≤ blockCount (length d) → pauses j ≤ c .t4 .0
 
+-- In n ticks T3 runs out at no own place of these that awaits its reply: so nothing is reported of it (02, request 2: "verdict 6 gives S9F9").
+-- A host reports nothing.
+pub data NoneLate (c : Terms) (x : Exchange) (n : ℕ) (Of : ℕ → Type 0) : Type 0 where
+  host : c .host ≡ true → NoneLate c x n Of
+  in-time : ((p : ℕ) → p < 4 → Of p → (timer : ℕ) → ownPlace x p .stage ≡ Awaiting timer → timer + n ≤ c .t3 .0) → NoneLate c x n Of
+
+-- at none
+abbrev pub AnyPlace : ℕ → Type 0
+AnyPlace p = Unit {0}
+
+-- the last number given, what is being sent and the reports that wait are as they were
+abbrev pub SameOutbox : Exchange → Exchange → Type 0
+SameOutbox x y = outboxOf y ≡ outboxOf x
+
 -- ---- a primary
 
 -- Message d with header h finds a place in x, and throws none out.
@@ -134,10 +149,11 @@ pub record Assembled (c : Terms) (pauses : ℕ → ℕ) (x : Exchange) (h : Head
   pub same : SameElse primary h
   -- its area begins with the same bytes
   pub bytes : front (r .room) (message.Incoming place) (length d) ≡ d
-  -- every other place, and what is being sent, is as the ticks alone leave it
+  -- every other place, and what is being sent, is as the ticks alone leave it: as it was, where none of them has anything reported
   pub others : (q : ℕ) → q ≢ place → incomingPlace (r .exchange) q ≡ incomingPlace (ticksAlone c pauses d x) q
   pub owns : (q : ℕ) → ownPlace (r .exchange) q ≡ ownPlace (ticksAlone c pauses d x) q
-  pub sending : r .exchange .sending ≡ x .sending
+  pub outbox : SameOutbox (ticksAlone c pauses d x) (r .exchange)
+  pub unreported : NoneLate c x (ticksBefore pauses (blockCount (length d))) AnyPlace → SameOutbox x (r .exchange)
   -- what is saved is the header of its last block
   pub saved : r .exchange .saved ≡ record { any = true; header = headerIn h d (blockCount (length d)) }
 
@@ -189,11 +205,15 @@ pub record ReplyAssembled (c : Terms) (pauses : ℕ → ℕ) (v : Verdict) (x : 
   pub verdict : ownReading (r .exchange) p ≡ own.Place g (Given v) (replyOf h (length d))
   -- its area begins with the same bytes
   pub bytes : front (r .room) (message.Reply p) (length d) ≡ d
-  -- every other place is as the ticks alone leave it, and so is what is being sent, if that is not the primary; the primary is sent no more
+  -- every other place is as the ticks alone leave it; where these have nothing reported of another place, what is being sent is as it was, if
+  -- that is not the primary; the primary is sent no more
   pub others : (q : ℕ) → q ≢ p → ownPlace (r .exchange) q ≡ ownPlace (ticksAlone c pauses d x) q
   pub incomings : (q : ℕ) → incomingPlace (r .exchange) q ≡ incomingPlace (ticksAlone c pauses d x) q
-  pub sending : sentFrom (x .sending) p ≡ false → r .exchange .sending ≡ x .sending
-  pub withdrawn : sentFrom (x .sending) p ≡ true → r .exchange .sending ≡ Nothing
+  pub unreported :
+      sentFrom (x .sending) p ≡ false → NoneLate c x (ticksBefore pauses (blockCount (length d))) (λ q. q ≢ p) → SameOutbox x (r .exchange)
+  pub withdrawn :
+      sentFrom (x .sending) p ≡ true → x .reports .count ≡ 0 → NoneLate c x (ticksBefore pauses (blockCount (length d))) (λ q. q ≢ p)
+      → r .exchange .sending ≡ Nothing
   -- what is saved is the header of its last block
   pub saved : r .exchange .saved ≡ record { any = true; header = headerIn h d (blockCount (length d)) }
 

@@ -3,7 +3,7 @@
 use Prim.Native.Nat.{ℕ}
 use mathlib.Core.Path.{_≡_}
 use mathlib.Core.Bool.{true, false}
-use mathlib.Core.Logic.{_⊎_}
+use mathlib.Core.Logic.{_⊎_, _≢_}
 use mathlib.Core.List.{List}
 use lib.ListN.{length}
 use Rattle.settings.specs.declared.terms.Terms.{Terms}
@@ -49,24 +49,41 @@ RequestSends = (c : Terms) (x : Exchange) (r : Request) (room : List ℕ) → Se
 
 -- ---- the other calls
 
+-- no message is being sent, or a report is (02, request 2)
+pub data NoneOrReport : Sending → Type 0 where
+  none : NoneOrReport sending.Nothing
+  report : (f n : ℕ) → NoneOrReport (sending.Report f n)
+
 -- it was the primary of an own place, and is being sent no more
 pub record Withdrawn (before after : Sending) : Type 0 where
   pub place : ℕ
   pub was : sentFrom before place ≡ true
-  pub now : after ≡ sending.Nothing
+  pub now : NoneOrReport after
 
--- judging leaves it, but where the block is of the reply to it (`Leaves`, specs/Rules.antt, has which block that is), then no message is
--- being sent; time leaves it, and so does putting its last block out; where it was acknowledged, or failed, no message is being sent: in
--- every state
+-- none was being sent: none is, or a report that starts
+pub record ReportBegins (before after : Sending) : Type 0 where
+  pub was : before ≡ sending.Nothing
+  pub now : NoneOrReport after
+
+-- what was being sent is so no more
+pub record Ended (before after : Sending) : Type 0 where
+  -- with nothing being sent, nothing ends
+  pub none : before ≡ sending.Nothing → after ≡ sending.Nothing
+  pub some : before ≢ sending.Nothing → NoneOrReport after
+
+-- judging leaves it, but where the block is of the reply to it (`Boxed`, specs/Rules.antt, has which block that is), then it is being sent no
+-- more, and but for a report that starts; time leaves it, but for a report that starts; putting its last block out leaves it; where it was
+-- acknowledged, or failed, it is being sent no more: in every state
 pub record SendingGoes (c : Terms) (x : Exchange) : Type 0 where
   pub judged :
       (h d room : List ℕ)
       → (judgeOf c x h d room .answer .exchange .sending ≡ x .sending)
       ⊎ Withdrawn (x .sending) (judgeOf c x h d room .answer .exchange .sending)
-  pub ticked : tickOf c x .exchange .sending ≡ x .sending
+      ⊎ ReportBegins (x .sending) (judgeOf c x h d room .answer .exchange .sending)
+  pub ticked : (tickOf c x .exchange .sending ≡ x .sending) ⊎ ReportBegins (x .sending) (tickOf c x .exchange .sending)
   pub put-out : putOutOf x .sending ≡ x .sending
-  pub acknowledged : sentOf x .exchange .sending ≡ sending.Nothing
-  pub failed : failedOf x .exchange .sending ≡ sending.Nothing
+  pub acknowledged : Ended (x .sending) (sentOf x .exchange .sending)
+  pub failed : Ended (x .sending) (failedOf x .exchange .sending)
 
 abbrev pub SendingEnds : Type 0
 SendingEnds = (c : Terms) (x : Exchange) → SendingGoes c x

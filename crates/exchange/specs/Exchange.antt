@@ -11,6 +11,7 @@ use Rattle.place.specs.declared.Incoming.{Incoming}
 use Rattle.table.specs.Own.{ownAt, ownPut}
 use Rattle.table.specs.Incoming.{incomingAt, incomingPut}
 use Rattle.table.specs.Number.{numberOf}
+use Rattle.reports.specs.Reports.{noReports}
 use Rattle.exchange.specs.declared.Sending.{Sending}
 use Rattle.exchange.specs.declared.Sending.the-variants as sending
 use Rattle.exchange.specs.declared.Exchange.{Exchange}
@@ -22,6 +23,7 @@ freshExchange last = record {
   saved = record { any = false; header = replicate 10 0 };
   numbers = record { last = last; latest = 0 };
   sending = sending.Nothing;
+  reports = noReports;
 }
 
 abbrev pub ownPlace : Exchange → ℕ → Own
@@ -46,21 +48,30 @@ putOwn x p o = record {
   saved = x .saved;
   numbers = record { last = x .numbers .last; latest = latestAfter (x .numbers .latest) (ownPlace x p) o };
   sending = x .sending;
+  reports = x .reports;
 }
 
 -- an incoming place is put anew
 unfoldable pub putIncoming : Exchange → ℕ → Incoming → Exchange
-putIncoming x p i = record { own = x .own; incoming = incomingPut (x .incoming) p i; saved = x .saved; numbers = x .numbers; sending = x .sending }
+putIncoming x p i = record {
+  own = x .own;
+  incoming = incomingPut (x .incoming) p i;
+  saved = x .saved;
+  numbers = x .numbers;
+  sending = x .sending;
+  reports = x .reports;
+}
 
 -- another message is being sent, or none
 unfoldable pub withSending : Exchange → Sending → Exchange
-withSending x s = record { own = x .own; incoming = x .incoming; saved = x .saved; numbers = x .numbers; sending = s }
+withSending x s = record { own = x .own; incoming = x .incoming; saved = x .saved; numbers = x .numbers; sending = s; reports = x .reports }
 
 -- the message being sent is the primary of own place p
 abbrev pub sentFrom : Sending → ℕ → Bool
 sentFrom sending.Nothing p = false
 sentFrom (sending.Primary q n) p = eqb q p
 sentFrom (sending.Reply q f n) p = false
+sentFrom (sending.Report f n) p = false
 
 -- what is being sent once a block of the reply in own place p has come: its primary no more (02, request 1: "the held block is withdrawn and
 -- counts as sent")
@@ -73,4 +84,11 @@ putReplied x p o = withSending (putOwn x p o) (sentBehind (x .sending) p)
 
 -- rule 2: "Otherwise the header is saved, even if the block is thrown out below."
 unfoldable pub savedNow : Exchange → List ℕ → Exchange
-savedNow x h = record { own = x .own; incoming = x .incoming; saved = record { any = true; header = h }; numbers = x .numbers; sending = x .sending }
+savedNow x h = record {
+  own = x .own;
+  incoming = x .incoming;
+  saved = record { any = true; header = h };
+  numbers = x .numbers;
+  sending = x .sending;
+  reports = x .reports;
+}

@@ -1,4 +1,4 @@
--- Judging a block that went up (01, "A block that goes up is judged in this order"; E4 7.4).
+-- Judging a block that went up (01, "A block that goes up is judged in this order"; E4 7.4), and what is reported of it (02, request 2).
 use Prim.Native.Nat.{ℕ}
 use mathlib.Core.Bool.{Bool, true, false, cond, not, _&&_}
 use mathlib.Core.List.{List, [], _∷_}
@@ -25,9 +25,13 @@ use Rattle.table.specs.declared.Found.the-variants.{At, Nowhere}
 use Rattle.exchange.specs.Note.{noteBy}
 use Rattle.exchange.specs.Flags.{noFlags, verdictFlag, incomingFlags}
 use Rattle.exchange.specs.Exchange.{ownPlace, incomingPlace, gotVerdict, putReplied, putIncoming, savedNow}
+use Rattle.reports.specs.Reports.{report}
+use Rattle.exchange.specs.Reports.{withOutbox, caused, freedIn}
+use Rattle.exchange.specs.declared.Outbox.{Outbox}
 use Rattle.exchange.specs.declared.Note.{Note}
 use Rattle.exchange.specs.declared.Note.the-variants.{Kept, Misrouted, Duplicate, Stray, NoPlace, TooLong, Empty}
 use Rattle.exchange.specs.declared.Saved.{Saved}
+use Rattle.exchange.specs.declared.Sending.{Sending}
 use Rattle.exchange.specs.declared.Exchange.{Exchange}
 use Rattle.exchange.specs.declared.Judged.{Judged}
 
@@ -167,7 +171,31 @@ newBlock x h d room = ofReply (replyFor (x .own) h) x h d room
 
 -- ---- the seven rules in their order, for a block with header bytes h and data d: rule 2 compares the bytes, all else is judged by what
 -- they say
-unfoldable pub judgeOf : Terms → Exchange → List ℕ → List ℕ → List ℕ → Judging
-judgeOf c x h d room =
+unfoldable pub rulesOf : Terms → Exchange → List ℕ → List ℕ → List ℕ → Judging
+rulesOf c x h d room =
     cond (isMisrouted c (headerOf h)) (thrown x Misrouted room)
     (cond (isDuplicate c x h) (thrown x Duplicate room) (newBlock (savedNow x h) (headerOf h) d room))
+
+-- ---- what is reported of it
+
+-- "A misrouted block gives S9F1 .. a message over the limit gives S9F11", with "the ten header bytes of the offending block"; no other note
+-- does. y is what the seven rules left.
+abbrev pub causedBy : Note → Terms → Exchange → List ℕ → Outbox → Outbox
+causedBy Kept c y h b = b
+causedBy Misrouted c y h b = caused c (y .own) (y .numbers .latest) b (report 1 h)
+causedBy Duplicate c y h b = b
+causedBy Stray c y h b = b
+causedBy NoPlace c y h b = b
+causedBy TooLong c y h b = caused c (y .own) (y .numbers .latest) b (report 11 h)
+causedBy Empty c y h b = b
+
+-- where `before` was being sent: a block that ends it frees the line first
+unfoldable pub boxBehind : Terms → Sending → List ℕ → Judged → Outbox
+boxBehind c before h j = causedBy (j .note) c (j .exchange) h (freedIn before (j .exchange))
+
+abbrev pub reporting : Terms → Sending → List ℕ → Judged → Judged
+reporting c before h j = record { exchange = withOutbox (j .exchange) (boxBehind c before h j); note = j .note; flags = j .flags }
+
+-- a block with header bytes h and data d was judged
+abbrev pub judgeOf : Terms → Exchange → List ℕ → List ℕ → List ℕ → Judging
+judgeOf c x h d room = judging (reporting c (x .sending) h (rulesOf c x h d room .answer)) (rulesOf c x h d room .room)

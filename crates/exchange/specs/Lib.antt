@@ -1,10 +1,11 @@
 pub mod Note
 pub mod Flags
 pub mod Exchange
+pub mod Request
+pub mod Reports
 pub mod Tick
 pub mod Send
 pub mod Judge
-pub mod Request
 pub mod Reading
 pub mod Range
 pub mod Rules
@@ -21,3 +22,4 @@ pub mod Places
 pub mod Assembly
 pub mod Numbers
 pub mod Posting
+pub mod Reporting

@@ -14,12 +14,16 @@ use Rattle.place.specs.declared.Verdict.{Verdict}
 use Rattle.place.specs.declared.Verdict.the-variants.{Sent, Answered, Declined, Other, Broken, NoReply, SendFailed}
 use Rattle.place.specs.declared.Standing.the-variants.{Free, Open, Given}
 use Rattle.place.specs.declared.Reply.{Reply}
+use Rattle.table.specs.Number.{nextNumber}
+use Rattle.exchange.specs.Reports.{sameMessage}
 use Rattle.exchange.specs.Reading.{ownReading}
 use Rattle.exchange.specs.Request.{openOf, Request, primary, reply, free-own, free-incoming, answerOf}
 use Rattle.exchange.specs.Rules.{Fours}
 use Rattle.exchange.specs.Refusals.{numberGiven}
 use Rattle.exchange.specs.History.{Call, block, tick, put-out, acknowledged, failed, request, called, track, atStart}
 use Rattle.exchange.specs.Watching.{watch}
+use Rattle.exchange.specs.declared.Sending.{Sending}
+use Rattle.exchange.specs.declared.Sending.the-variants as sending
 use Rattle.exchange.specs.declared.Exchange.{Exchange}
 use Rattle.exchange.specs.declared.OwnReading.{OwnReading}
 use Rattle.exchange.specs.declared.OwnReading.the-variants.{NoPlace, Place}
@@ -64,7 +68,8 @@ gets kind before after = not (shows anyVerdict before) && shows kind after
 
 -- ---- what the onlooker keeps
 
--- the number of the last primary that was accepted, and that of the latest own transaction to get a verdict
+-- the number of the last primary that was accepted or report that started, and that of the latest own transaction to get a verdict: a
+-- report gets none
 pub record NumbersSeen : Type 0 where
   pub last : ℕ
   pub latest : ℕ
@@ -95,12 +100,24 @@ abbrev pub lastAsked : Request → Asked → (ℕ → OwnReading) → ℕ → �
 lastAsked r (Taken p) after last = lastBy r (after p) last
 lastAsked r (Refused n) after last = last
 
+-- a report that started shows its number in what is being sent: "a new transaction number, taken when the report starts" (02, request 2).
+-- `same` is whether the same message was being sent before.
+abbrev pub lastStarted : Bool → Sending → ℕ → ℕ
+lastStarted same sending.Nothing last = last
+lastStarted same (sending.Primary p n) last = last
+lastStarted same (sending.Reply p f n) last = last
+lastStarted same (sending.Report f n) last = cond same last n
+
+-- by what is being sent before a call and behind it
+abbrev pub lastReported : Sending → Sending → ℕ → ℕ
+lastReported before after last = lastStarted (sameMessage before after) after last
+
 abbrev pub lastSeen : Terms → Exchange → List ℕ → ℕ → Call → ℕ
-lastSeen c x room last (block h d) = last
-lastSeen c x room last tick = last
+lastSeen c x room last (block h d) = lastReported (x .sending) (called c x room (block h d) .exchange .sending) last
+lastSeen c x room last tick = lastReported (x .sending) (called c x room tick .exchange .sending) last
 lastSeen c x room last put-out = last
-lastSeen c x room last acknowledged = last
-lastSeen c x room last failed = last
+lastSeen c x room last acknowledged = lastReported (x .sending) (called c x room acknowledged .exchange .sending) last
+lastSeen c x room last failed = lastReported (x .sending) (called c x room failed .exchange .sending) last
 lastSeen c x room last (request r) = lastAsked r (answerOf c x r room .answer .asked) (ownReading (answerOf c x r room .answer .exchange)) last
 
 abbrev pub numbersSees : Terms → Exchange → List ℕ → NumbersSeen → Call → NumbersSeen
@@ -122,6 +139,8 @@ numbersWatch c last room ks = watch c (numbersSees c) (atStart last room) (numbe
 pub record NumbersAre (x : Exchange) (s : NumbersSeen) : Type 0 where
   pub last : x .numbers .last ≡ s .last
   pub latest : x .numbers .latest ≡ s .latest
+  -- a report on its way has the last one given: no primary is accepted before it is over
+  pub report : (f n : ℕ) → x .sending ≡ sending.Report f n → n ≡ s .last
   -- "0 to 65535"
   pub fits : x .numbers .last ≤ 65535
 
@@ -147,15 +166,28 @@ pub record GivesNumber (c : Terms) (x : Exchange) (room : List ℕ) (k : Call) :
   pub so : k ≡ request (primary header rest)
   pub taken : answerOf c x (primary header rest) room .answer .asked ≡ Taken place
 
--- "the next after the last given": a primary that is accepted is given the next number, and that one is the last given then. No other
--- call gives a number, or takes one back: no block, tick, last block put out, ACK or failure, and no other request.
+-- a report is being sent behind a call, and not the same one before it
+pub record StartsReport (before after : Exchange) : Type 0 where
+  pub function : ℕ
+  pub number : ℕ
+  pub now : after .sending ≡ sending.Report function number
+  pub new : before .sending ≢ after .sending
+
+-- "the next after the last given": a primary that is accepted is given the next number, and that one is the last given then; so is a report
+-- that starts, "passing over any number in an own place in use and that of the latest own transaction to get a verdict", as they are then.
+-- Nothing else gives a number, or takes one back: no report that waits or is dropped, no other block, tick, ACK or failure, no last block put
+-- out, and no other request.
 pub record LastMoves (Gives : Type 0) (before after : Exchange) : Type 0 where
   pub given : Gives → after .numbers .last ≡ numberGiven before
-  pub stays : (Gives → ⊥) → after .numbers .last ≡ before .numbers .last
+  pub started :
+      (s : StartsReport before after)
+      → (after .numbers .last ≡ nextNumber (after .own) (before .numbers .last) (after .numbers .latest)) × (s .number ≡ after .numbers .last)
+  pub stays : (Gives → ⊥) → (StartsReport before after → ⊥) → after .numbers .last ≡ before .numbers .last
 
 abbrev pub LastGoes : Type 0
 LastGoes =
-    (c : Terms) (x : Exchange) (room : List ℕ) → Fours x → (k : Call) → LastMoves (GivesNumber c x room k) x (called c x room k .exchange)
+    (c : Terms) (x : Exchange) (room : List ℕ) → Fours x → (s : NumbersSeen) → NumbersAre x s → (k : Call)
+    → LastMoves (GivesNumber c x room k) x (called c x room k .exchange)
 
 -- an own place got its verdict: it shows none before the call, and one after it
 pub record Got (before after : OwnReading) : Type 0 where
@@ -211,3 +243,9 @@ NumberDistinct =
     (c : Terms) (x : Exchange) → Fours x → (s : NumbersSeen) → NumbersAre x s → (q : Primary) (d room : List ℕ) (p : ℕ)
     → openOf c x q d room .answer .asked ≡ Taken p
     → NumberNew x s (numberShown (ownReading (openOf c x q d room .answer .exchange) p))
+
+-- and so is that of a report which starts, of the places and the latest verdict as they are then
+abbrev pub ReportDistinct : Type 0
+ReportDistinct =
+    (c : Terms) (x : Exchange) (room : List ℕ) → Fours x → (s : NumbersSeen) → NumbersAre x s → (k : Call)
+    → (w : StartsReport x (called c x room k .exchange)) → NumberNew (called c x room k .exchange) (numbersSees c x room s k) (w .number)

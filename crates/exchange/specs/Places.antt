@@ -3,12 +3,14 @@
 use Prim.Native.Nat.{ℕ, _<_}
 use mathlib.Core.Path.{_≡_}
 use mathlib.Core.Bool.{true, false}
+use mathlib.Core.List.{[]}
 use mathlib.Core.Logic.{_↔_, _⊎_}
 use Rattle.place.specs.Own.{ownStanding}
 use Rattle.place.specs.Incoming.{primaryOf}
 use Rattle.place.specs.IncomingHistory.{nothing, shows}
 use Rattle.place.specs.IncomingTheorems.{isComplete}
 use Rattle.place.specs.declared.Standing.the-variants as standing
+use Rattle.reports.specs.Reports.{waitingIn}
 use Rattle.exchange.specs.Exchange.{freshExchange, ownPlace, incomingPlace}
 use Rattle.exchange.specs.Reading.{ownReading, incomingReading, stageBy}
 use Rattle.exchange.specs.Rules.{Fours}
@@ -63,6 +65,9 @@ pub record Fresh (told : ℕ) (x : Exchange) : Type 0 where
   pub last : x .numbers .last ≡ told
   -- no own transaction has got a verdict: 0 is no number
   pub latest : x .numbers .latest ≡ 0
+  -- no report waits, and none was dropped
+  pub none-waits : waitingIn (x .reports) ≡ []
+  pub none-dropped : x .reports .dropped ≡ 0
 
 abbrev pub FreshExactly : Type 0
 FreshExactly = (last : ℕ) → Fresh last (freshExchange last)

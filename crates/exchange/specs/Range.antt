@@ -11,6 +11,7 @@ use Rattle.place.specs.declared.Own.{Own}
 use Rattle.place.specs.declared.Incoming.{Incoming}
 use Rattle.table.specs.Own.{ownAt}
 use Rattle.table.specs.Incoming.{incomingAt}
+use Rattle.reports.specs.Reports.{reportsInRange}
 use Rattle.exchange.specs.declared.Sending.{Sending}
 use Rattle.exchange.specs.declared.Sending.the-variants as sending
 use Rattle.exchange.specs.declared.Exchange.{Exchange}
@@ -30,9 +31,10 @@ abbrev pub sendingInRange : Sending → Bool
 sendingInRange sending.Nothing = true
 sendingInRange (sending.Primary p n) = messageInRange p n
 sendingInRange (sending.Reply p f n) = messageInRange p n
+sendingInRange (sending.Report f n) = true
 
 unfoldable pub exchangeInRange : Exchange → Bool
-exchangeInRange x = ownsInRange (x .own) && (incomingsInRange (x .incoming) && sendingInRange (x .sending))
+exchangeInRange x = ownsInRange (x .own) && (incomingsInRange (x .incoming) && (sendingInRange (x .sending) && reportsInRange (x .reports)))
 
 -- ---- the same in numbers, field by field
 
@@ -41,11 +43,14 @@ abbrev pub SendingFits : Sending → Type 0
 SendingFits sending.Nothing = Unit {0}
 SendingFits (sending.Primary p n) = (p ≤ 3) × (n ≤ messageLimit)
 SendingFits (sending.Reply p f n) = (p ≤ 3) × (n ≤ messageLimit)
+SendingFits (sending.Report f n) = Unit {0}
 
 pub record ExchangeFits (x : Exchange) : Type 0 where
   pub own : (p : ℕ) → p < 4 → OwnFits (ownAt (x .own) p)
   pub incoming : (p : ℕ) → p < 4 → IncomingFits (incomingAt (x .incoming) p)
   pub sending : SendingFits (x .sending)
+  -- "Up to 8 reports wait"
+  pub waiting : x .reports .count ≤ 8
 
 -- The tests ask for these ranges, and no more.
 abbrev pub SendingFitsExactly : Type 0

@@ -2,11 +2,12 @@
 -- and what is proved of the requests by them. Each proof is in `proofs/`.
 use Prim.Native.Nat.{ℕ, _+_, _*_, _%_, _<_}
 use mathlib.Core.Path.{_≡_}
-use mathlib.Core.Bool.{false, not}
+use mathlib.Core.Bool.{true, false, not}
 use mathlib.Core.List.{List}
 use mathlib.Core.Logic.{_↔_, _⊎_, _≢_}
 use lib.ListN.{length}
 use Rattle.wire.specs.Message.{messageLimit}
+use Rattle.cut.specs.Blocks.{blockCount}
 use Rattle.header.specs.Header.{InRange, headerBytes}
 use Rattle.header.specs.declared.header.Header.{Header}
 use Rattle.settings.specs.declared.terms.Terms.{Terms}
@@ -46,7 +47,7 @@ pub record BadReply (primary : Header) (f : ℕ) : Type 0 where
 abbrev pub DataAbove : List ℕ → Type 0
 DataAbove d = messageLimit < length d
 
--- 7: "a message is being sent or held"
+-- 7: "a message is being sent or held"; "refusal 7 also covers a report on its way" (02, request 2)
 abbrev pub IsSending : Exchange → Type 0
 IsSending x = x .sending ≢ sending.Nothing
 
@@ -171,24 +172,25 @@ RequestSpares = (c : Terms) (x : Exchange) (r : Request) (room : List ℕ) → l
 abbrev pub numberGiven : Exchange → ℕ
 numberGiven x = nextNumber (x .own) (x .numbers .last) (x .numbers .latest)
 
--- the header of a primary with this number: W, stream and function are those asked for; R = 1 means to the host; "System bytes: the
--- caller's 16-bit source ID, then the number." Block number and E are 0: each block of it gets its own.
-pub record AsAsked (c : Terms) (q : Primary) (n : ℕ) (h : Header) : Type 0 where
+-- the header of a primary of so many data bytes with this number: W, stream and function are those asked for; R = 1 means to the host;
+-- "System bytes: the caller's 16-bit source ID, then the number." Block number and E are those of its last block: an S9F9 shows that one
+-- (02, request 2), and each block that is cut gets its own.
+pub record AsAsked (c : Terms) (q : Primary) (size n : ℕ) (h : Header) : Type 0 where
   pub r : h .r ≡ not (c .host)
   pub device : h .device ≡ c .device
   pub w : h .w ≡ q .w
   pub stream : h .stream ≡ q .stream
   pub function : h .function ≡ q .function
   pub system : h .system ≡ q .source * 65536 + n
-  pub number : h .number ≡ 0
-  pub e : h .e ≡ false
+  pub number : h .number ≡ blockCount size
+  pub e : h .e ≡ true
 
 pub record Opened (c : Terms) (x : Exchange) (q : Primary) (d room : List ℕ) (p : ℕ) (y : Exchange) (left : List ℕ) : Type 0 where
   -- "A primary takes the lowest free own place."
   pub lowest : LowestAt (OwnFree x) p
   -- it is being sent, with the next number
   pub header : Header
-  pub as-asked : AsAsked c q (numberGiven x) header
+  pub as-asked : AsAsked c q (length d) (numberGiven x) header
   pub place : ownPlace y p ≡ record { header = headerBytes header; stage = own.Sending }
   pub sending : y .sending ≡ sending.Primary p (length d)
   pub outgoing : InRange header → outgoingOf y ≡ outgoing.Message header (length d)
@@ -200,6 +202,7 @@ pub record Opened (c : Terms) (x : Exchange) (q : Primary) (d room : List ℕ) (
   pub incoming : y .incoming ≡ x .incoming
   pub saved : y .saved ≡ x .saved
   pub latest : y .numbers .latest ≡ x .numbers .latest
+  pub reports : y .reports ≡ x .reports
 
 abbrev pub AcceptedOpens : Type 0
 AcceptedOpens =
@@ -236,6 +239,7 @@ pub record Replied (x : Exchange) (p f : ℕ) (d room : List ℕ) (k : ℕ) (y :
   pub own : y .own ≡ x .own
   pub saved : y .saved ≡ x .saved
   pub numbers : y .numbers ≡ x .numbers
+  pub reports : y .reports ≡ x .reports
 
 abbrev pub AcceptedReplies : Type 0
 AcceptedReplies =
@@ -253,6 +257,7 @@ pub record OwnReleased (x : Exchange) (p k : ℕ) (y : Exchange) : Type 0 where
   pub saved : y .saved ≡ x .saved
   pub numbers : y .numbers ≡ x .numbers
   pub sending : y .sending ≡ x .sending
+  pub reports : y .reports ≡ x .reports
 
 pub record IncomingReleased (x : Exchange) (p k : ℕ) (y : Exchange) : Type 0 where
   pub same : k ≡ p
@@ -262,6 +267,7 @@ pub record IncomingReleased (x : Exchange) (p k : ℕ) (y : Exchange) : Type 0 w
   pub saved : y .saved ≡ x .saved
   pub numbers : y .numbers ≡ x .numbers
   pub sending : y .sending ≡ x .sending
+  pub reports : y .reports ≡ x .reports
 
 pub record AcceptedReleases : Type 0 where
   pub own :

@@ -5,6 +5,7 @@ use mathlib.Core.List.{List}
 use lib.Dec.{eqb, ltb}
 use lib.ListN.{length}
 use Rattle.wire.specs.Message.{messageLimit}
+use Rattle.cut.specs.Blocks.{blockCount}
 use Rattle.header.specs.Header.{headerBytes}
 use Rattle.header.specs.declared.header.Header.{Header}
 use Rattle.settings.specs.declared.terms.Terms.{Terms}
@@ -72,11 +73,12 @@ badFunction h f = not (eqb f 0) && not (eqb f (h .function + 1))
 unfoldable pub dataLong : ℕ → Bool
 dataLong n = ltb messageLimit n
 
--- 7: "a message is being sent or held"
+-- 7: "a message is being sent or held"; "refusal 7 also covers a report on its way" (02, request 2)
 abbrev pub sendingBy : Sending → Bool
 sendingBy sending.Nothing = false
 sendingBy (sending.Primary p n) = true
 sendingBy (sending.Reply p f n) = true
+sendingBy (sending.Report f n) = true
 
 abbrev pub isSending : Exchange → Bool
 isSending x = sendingBy (x .sending)
@@ -87,27 +89,29 @@ notReady i = not (incomingIsComplete i) && not (incomingIsReplied i)
 
 -- ---- open a primary
 
--- R = 1 means to the host; "System bytes: the caller's 16-bit source ID, then the number."
-abbrev pub primaryHeader : Terms → Primary → ℕ → Header
-primaryHeader c q number = record {
+-- The header of the last block of a primary with n data bytes, which its place keeps: an S9F9 shows it (02, request 2). R = 1 means to the
+-- host; "only the last has E = 1"; "System bytes: the caller's 16-bit source ID, then the number."
+abbrev pub primaryHeader : Terms → Primary → ℕ → ℕ → Header
+primaryHeader c q n number = record {
   r = not (c .host);
   device = c .device;
   w = q .w;
   stream = q .stream;
   function = q .function;
-  e = false;
-  number = 0;
+  e = true;
+  number = blockCount n;
   system = q .source * 65536 + number;
 }
 
 -- a primary of n data bytes takes a place and this number
 abbrev pub claimedAs : Terms → Exchange → ℕ → Primary → ℕ → ℕ → Exchange
 claimedAs c x p q n number = record {
-  own = ownPut (x .own) p (ownClaimed (ownPlace x p) (headerBytes (primaryHeader c q number)));
+  own = ownPut (x .own) p (ownClaimed (ownPlace x p) (headerBytes (primaryHeader c q n number)));
   incoming = x .incoming;
   saved = x .saved;
   numbers = record { last = number; latest = x .numbers .latest };
   sending = sending.Primary p n;
+  reports = x .reports;
 }
 
 unfoldable pub claimedAt : Terms → Exchange → ℕ → Primary → ℕ → Exchange

@@ -3,7 +3,7 @@
 use Prim.Native.Nat.{ℕ, _+_, _%_, _≤_, _<_}
 use mathlib.Core.Path.{_≡_}
 use mathlib.Core.Bool.{Bool, true, false, cond}
-use mathlib.Core.List.{List}
+use mathlib.Core.List.{List, _∷_}
 use mathlib.Core.Logic.{_↔_, _⊎_, _≢_}
 use lib.ListN.{length}
 use Rattle.wire.specs.Message.{messageLimit}
@@ -25,19 +25,22 @@ use Rattle.place.specs.declared.Own.{Own}
 use Rattle.place.specs.declared.IncomingStage.{IncomingStage}
 use Rattle.place.specs.declared.IncomingStage.the-variants as incoming
 use Rattle.place.specs.declared.Incoming.{Incoming}
-use Rattle.table.specs.Number.{numberOf}
+use Rattle.table.specs.Number.{numberOf, nextNumber}
 use Rattle.table.specs.Own.{ownAt, ownPut, replyFor}
 use Rattle.table.specs.Incoming.{incomingAt, incomingPut, messageFor}
 use Rattle.table.specs.Theorems.{Alike}
 use Rattle.table.specs.declared.Found.{Found}
 use Rattle.table.specs.declared.Found.the-variants.{At, Nowhere}
+use Rattle.reports.specs.Reports.{report, waitingIn, added}
+use Rattle.reports.specs.Theorems.{Sound}
+use Rattle.reports.specs.declared.Report.{Report}
 use Rattle.exchange.specs.Note.{noteNumber}
 use Rattle.exchange.specs.Flags.{noFlags, verdictFlag, incomingFlags}
 use Rattle.exchange.specs.declared.Flags.{Flags}
 use Rattle.exchange.specs.Exchange.{ownPlace, incomingPlace, sentFrom}
 use Rattle.exchange.specs.Judge.{Judging, judging, judgeOf}
 use Rattle.exchange.specs.declared.Note.the-variants.{Kept}
-use Rattle.exchange.specs.declared.Sending.the-variants.{Nothing}
+use Rattle.exchange.specs.declared.Sending.the-variants.{Nothing, Report as Report'}
 use Rattle.exchange.specs.declared.Exchange.{Exchange}
 
 -- ---- four places
@@ -180,9 +183,13 @@ NotesExactly =
 
 -- ---- what judging leaves
 
--- what judging comes to: the state, the flags, and the room
+-- what judging comes to: the places, the saved header and the number of the latest verdict are those of y; the flags, and the room. What is
+-- being sent, the last number and the reports that wait are `BoxGoes` below.
 pub record Comes (j : Judging) (y : Exchange) (raised : Flags) (left : List ℕ) : Type 0 where
-  pub state : j .answer .exchange ≡ y
+  pub own : j .answer .exchange .own ≡ y .own
+  pub incoming : j .answer .exchange .incoming ≡ y .incoming
+  pub saved : j .answer .exchange .saved ≡ y .saved
+  pub latest : j .answer .exchange .numbers .latest ≡ y .numbers .latest
   pub flags : j .answer .flags ≡ raised
   pub bytes : j .room ≡ left
 
@@ -194,9 +201,10 @@ onlySaved x h = record {
   saved = record { any = true; header = h };
   numbers = x .numbers;
   sending = x .sending;
+  reports = x .reports;
 }
 
--- the state is this one, no flag is raised, and no byte of the room is touched
+-- the places and the saved header are these, no flag is raised, and no byte of the room is touched
 abbrev pub Untouched : Exchange → List ℕ → Judging → Type 0
 Untouched y room j = Comes j y noFlags room
 
@@ -219,17 +227,64 @@ pub record Leaves (c : Terms) (x : Exchange) (h room : List ℕ) (j : Judging) :
   pub no-place : noted j ≡ 25 → Untouched (onlySaved x h) room j
   -- no byte is kept of a block that is thrown out
   pub thrown-out : noted j ≢ 21 → j .room ≡ room
-  -- no number is given
-  pub last : j .answer .exchange .numbers .last ≡ x .numbers .last
-  -- what is being sent goes on, unless the block is of the reply to it: then nothing is (02, request 1: "If the reply's first block is kept, or
-  -- breaks the reply, while that block is held, the held block is withdrawn and counts as sent")
-  pub sending : Fours x → (OfReplyToSent c x h → ⊥) → j .answer .exchange .sending ≡ x .sending
-  pub withdrawn : Fours x → OfReplyToSent c x h → j .answer .exchange .sending ≡ Nothing
 
 abbrev pub JudgeLeaves : Type 0
 JudgeLeaves = (c : Terms) (x : Exchange) (h d room : List ℕ) → Leaves c x h room (judgeOf c x h d room)
 
--- ---- the whole state behind a block with header bytes h that came to a place, field by field
+-- ---- what is being sent, the last number, and the reports that wait
+
+-- the report that a block with header bytes h causes at the equipment, by its note: "A misrouted block gives S9F1 .. a message over the limit
+-- gives S9F11"; no other note does (02, request 2)
+pub data Causes (c : Terms) (h : List ℕ) : ℕ → Report → Type 0 where
+  misrouted : c .host ≡ false → Causes c h 22 (report 1 h)
+  too-long : c .host ≡ false → Causes c h 26 (report 11 h)
+
+abbrev pub CausesNone : Terms → List ℕ → ℕ → Type 0
+CausesNone c h n = (r : Report) → Causes c h n r → ⊥
+
+-- a report starts, y being the state then: "a new transaction number, taken when the report starts"; `rest` wait then
+pub record Begun (last : ℕ) (r : Report) (rest : List Report) (dropped : ℕ) (y : Exchange) : Type 0 where
+  pub number : y .numbers .last ≡ nextNumber (y .own) last (y .numbers .latest)
+  pub sending : y .sending ≡ Report' (r .function) (y .numbers .last)
+  pub shown : y .reports .shown ≡ r .header
+  pub waiting : waitingIn (y .reports) ≡ rest
+  pub dropped-stays : y .reports .dropped ≡ dropped
+
+-- a report is due where a message is being sent or held, x being the state before: it waits, or is dropped
+pub record PutBy (r : Report) (x y : Exchange) : Type 0 where
+  pub last : y .numbers .last ≡ x .numbers .last
+  pub sending : y .sending ≡ x .sending
+  pub reports : y .reports ≡ added (x .reports) r
+
+pub record Boxed (c : Terms) (x : Exchange) (h : List ℕ) (n : ℕ) (y : Exchange) : Type 0 where
+  -- no number is given, what is being sent goes on, and none comes to wait, unless something is reported, or the block is of the reply to
+  -- what is being sent
+  pub stays :
+      (OfReplyToSent c x h → ⊥) → CausesNone c h n
+      → (y .numbers .last ≡ x .numbers .last) × (y .sending ≡ x .sending) × (y .reports ≡ x .reports)
+  -- the message is over by its reply (02, request 1: "the held block is withdrawn and counts as sent"): nothing is being sent then, if none
+  -- waits and none is caused
+  pub withdrawn :
+      OfReplyToSent c x h → CausesNone c h n → x .reports .count ≡ 0
+      → (y .numbers .last ≡ x .numbers .last) × (y .sending ≡ Nothing) × (y .reports ≡ x .reports)
+  -- "the oldest goes first, in the call that frees the line"; where the block is a cause too, which no unit meets (`MasterProvesNone`, link):
+  -- `ReportsKept` (specs/Reporting.antt)
+  pub freed :
+      Sound (x .reports) → OfReplyToSent c x h → CausesNone c h n → (r : Report) (rest : List Report) → waitingIn (x .reports) ≡ r ∷ rest
+      → Begun (x .numbers .last) r rest (x .reports .dropped) y
+  -- while nothing is being sent or held it starts in the call of its cause (reading 32)
+  pub begins :
+      Sound (x .reports) → (r : Report) → Causes c h n r → x .sending ≡ Nothing
+      → Begun (x .numbers .last) r (waitingIn (x .reports)) (x .reports .dropped) y
+  -- else it waits
+  pub waits : (r : Report) → Causes c h n r → (OfReplyToSent c x h → ⊥) → x .sending ≢ Nothing → PutBy r x y
+
+abbrev pub BoxGoes : Type 0
+BoxGoes =
+    (c : Terms) (x : Exchange) (h d room : List ℕ) → Fours x
+    → Boxed c x h (noted (judgeOf c x h d room)) (judgeOf c x h d room .answer .exchange)
+
+-- ---- the places, the saved header and the latest number behind a block with header bytes h that came to a place, field by field
 
 -- a message of the far end: incoming place p is i then, and the header is saved
 abbrev pub incomingBehind : Exchange → List ℕ → ℕ → Incoming → Exchange
@@ -239,6 +294,7 @@ incomingBehind x h p i = record {
   saved = record { any = true; header = h };
   numbers = x .numbers;
   sending = x .sending;
+  reports = x .reports;
 }
 
 -- a message that has its place goes on there, at this stage
@@ -246,7 +302,7 @@ abbrev pub messageAt : Exchange → ℕ → IncomingStage → Incoming
 messageAt x p s = record { header = incomingPlace x p .header; stage = s }
 
 -- The reply in own place p, which is at stage s then, with the request's header as it was; `latest` is the number "of the latest own
--- transaction to get a verdict" then; and its primary is being sent no more.
+-- transaction to get a verdict" then; and its primary is being sent no more (what is then: `BoxGoes`).
 abbrev pub ownBehind : Exchange → List ℕ → ℕ → OwnStage → ℕ → Exchange
 ownBehind x h p s latest = record {
   own = ownPut (x .own) p (record { header = ownPlace x p .header; stage = s });
@@ -254,6 +310,7 @@ ownBehind x h p s latest = record {
   saved = record { any = true; header = h };
   numbers = record { last = x .numbers .last; latest = latest };
   sending = cond (sentFrom (x .sending) p) Nothing (x .sending);
+  reports = x .reports;
 }
 
 -- no block of a reply is kept

@@ -27,7 +27,6 @@ use Rattle.exchange.specs.Exchange.{ownPlace, incomingPlace}
 use Rattle.exchange.specs.Tick.{tickOf}
 use Rattle.exchange.specs.Send.{putOutOf, sentOf, failedOf}
 use Rattle.exchange.specs.Judge.{judgeOf}
-use Rattle.exchange.specs.Request.{isSending}
 use Rattle.exchange.specs.Rules.{LowestAt, AlikeAt, NewPrimary}
 use Rattle.exchange.specs.Range.{exchangeInRange}
 use Rattle.exchange.specs.History.{Call, Track, track, atStart}
@@ -65,15 +64,23 @@ abbrev pub lengthSent : Sending → ℕ
 lengthSent sending.Nothing = 0
 lengthSent (sending.Primary p n) = n
 lengthSent (sending.Reply p f n) = n
+lengthSent (sending.Report f n) = 12
+
+-- it is a primary or a reply, which the caller asked for: of a report nothing lies in the room
+abbrev pub fromCaller : Sending → Bool
+fromCaller sending.Nothing = false
+fromCaller (sending.Primary p n) = true
+fromCaller (sending.Reply p f n) = true
+fromCaller (sending.Report f n) = false
 
 -- "After 2, 3 or 4, or once an incoming message is complete, its area begins with the data of the kept blocks joined": and so does
--- that of every reply and every message that is open; and the send area begins with the data of the message being sent.
+-- that of every reply and every message that is open; and the send area begins with the data of the primary or reply being sent.
 pub record Areas (t : Track) : Type 0 where
   pub reply : (p : ℕ) → p < 4 → hasReply (ownPlace (t .exchange) p .stage) ≡ true
       → StartsWith (t .room) (message.Reply p) (ownKept (ownPlace (t .exchange) p) .length) (t .seen .replies p)
   pub incoming : (p : ℕ) → p < 4 → incomingIsFree (incomingPlace (t .exchange) p) ≡ false
       → StartsWith (t .room) (message.Incoming p) (incomingLength (incomingPlace (t .exchange) p)) (t .seen .messages p)
-  pub outgoing : isSending (t .exchange) ≡ true → StartsWith (t .room) message.Send (lengthSent (t .exchange .sending)) (t .seen .outgoing)
+  pub outgoing : fromCaller (t .exchange .sending) ≡ true → StartsWith (t .room) message.Send (lengthSent (t .exchange .sending)) (t .seen .outgoing)
 
 abbrev pub JoinedInAreas : Type 0
 JoinedInAreas = (c : Terms) (t : Track) → Reached c t → Areas t

@@ -1,11 +1,14 @@
--- A tick: "own places 0 to 3, then incoming places 0 to 3" (01, "Messages").
+-- A tick: "own places 0 to 3, then incoming places 0 to 3" (01, "Messages"); and what is reported of it (02, request 2).
 use Prim.Native.Nat.{ℕ}
 use mathlib.Core.Path.{_≡_}
-use mathlib.Core.Bool.{Bool, true, false, not, _&&_, _||_}
+use mathlib.Core.Bool.{Bool, true, false, cond, not, _&&_, _||_}
 use mathlib.Core.List.{List, [], _∷_}
 use lib.ListN.{length}
 use Rattle.settings.specs.declared.terms.Terms.{Terms}
 use Rattle.place.specs.Incoming.{incomingIsFree, incomingIsOpen}
+use Rattle.reports.specs.Reports.{report}
+use Rattle.place.specs.declared.Verdict.{Verdict}
+use Rattle.place.specs.declared.Verdict.the-variants as verdict
 use Rattle.place.specs.declared.OwnStage.{OwnStage}
 use Rattle.place.specs.declared.OwnStage.the-variants as own
 use Rattle.place.specs.declared.Own.{Own}
@@ -14,6 +17,8 @@ use Rattle.table.specs.Own.{ownAt, tickedOwn}
 use Rattle.table.specs.Incoming.{incomingAt, tickedIncoming}
 use Rattle.exchange.specs.Flags.{noMarks, noFlags}
 use Rattle.exchange.specs.Exchange.{gotVerdict, latestAfter}
+use Rattle.exchange.specs.Reports.{outboxOf, withOutbox, caused}
+use Rattle.exchange.specs.declared.Outbox.{Outbox}
 use Rattle.exchange.specs.declared.Exchange.{Exchange}
 use Rattle.exchange.specs.declared.Changed.{Changed}
 
@@ -40,14 +45,16 @@ goneMarks is js =
     wasDropped (incomingAt is 0) (incomingAt js 0) ∷ wasDropped (incomingAt is 1) (incomingAt js 1)
     ∷ wasDropped (incomingAt is 2) (incomingAt js 2) ∷ wasDropped (incomingAt is 3) (incomingAt js 3) ∷ []
 
-unfoldable pub tickOf : Terms → Exchange → Changed
-tickOf c x = record {
+-- what the places make of it
+unfoldable pub passedOf : Terms → Exchange → Changed
+passedOf c x = record {
   exchange = record {
     own = tickedOwn c (x .own);
     incoming = tickedIncoming c (x .incoming);
     saved = x .saved;
     numbers = record { last = x .numbers .last; latest = latestOver (x .numbers .latest) (x .own) (tickedOwn c (x .own)) };
     sending = x .sending;
+    reports = x .reports;
   };
   flags = record {
     verdicts = gotMarks (x .own) (tickedOwn c (x .own));
@@ -55,6 +62,48 @@ tickOf c x = record {
     dropped = goneMarks (x .incoming) (tickedIncoming c (x .incoming));
   };
 }
+
+-- ---- "verdict 6 gives S9F9"
+
+abbrev pub isNoReply : Verdict → Bool
+isNoReply verdict.Sent = false
+isNoReply verdict.Answered = false
+isNoReply verdict.Declined = false
+isNoReply verdict.Other = false
+isNoReply verdict.Broken = false
+isNoReply verdict.NoReply = true
+isNoReply verdict.SendFailed = false
+
+-- a place has it
+abbrev pub noReplyAt : OwnStage → Bool
+noReplyAt own.Free = false
+noReplyAt own.Sending = false
+noReplyAt own.PutOut = false
+noReplyAt (own.Awaiting timer) = false
+noReplyAt (own.Replying a) = false
+noReplyAt (own.Done v r) = isNoReply v
+
+-- and got it now
+unfoldable pub gotNoReply : Own → Own → Bool
+gotNoReply before after = gotVerdict before after && noReplyAt (after .stage)
+
+-- "for S9F9 of the primary's last": the header that its place keeps; os are the places before the tick, qs behind it
+unfoldable pub lateAt : Terms → List Own → List Own → ℕ → ℕ → Outbox → Outbox
+lateAt c os qs latest p b = cond (gotNoReply (ownAt os p) (ownAt qs p)) (caused c qs latest b (report 9 (ownAt qs p .header))) b
+
+-- places 0 to 3 add theirs (reading 34)
+unfoldable pub lateOver : Terms → List Own → List Own → ℕ → Outbox → Outbox
+lateOver c os qs latest b = lateAt c os qs latest 3 (lateAt c os qs latest 2 (lateAt c os qs latest 1 (lateAt c os qs latest 0 b)))
+
+-- what time leaves, y, with what is reported of it
+abbrev pub reportsLate : Terms → Exchange → Changed → Changed
+reportsLate c x y = record {
+  exchange = withOutbox (y .exchange) (lateOver c (x .own) (y .exchange .own) (y .exchange .numbers .latest) (outboxOf (y .exchange)));
+  flags = y .flags;
+}
+
+abbrev pub tickOf : Terms → Exchange → Changed
+tickOf c x = reportsLate c x (passedOf c x)
 
 -- ---- a tick at which no timer runs
 

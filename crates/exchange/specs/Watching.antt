@@ -61,16 +61,17 @@ abbrev pub replyFrom : Sending → ℕ → Bool
 replyFrom sending.Nothing p = false
 replyFrom (sending.Primary q n) p = false
 replyFrom (sending.Reply q f n) p = eqb q p
+replyFrom (sending.Report f n) p = false
 
 -- ---- the onlooker of own place p
 
--- the header of a primary that is accepted: what was asked for, and the number that it gets
-abbrev pub acceptedAs : Terms → Exchange → Primary → Header
-acceptedAs c x q = headerOf (headerBytes (primaryHeader c q (nextNumber (x .own) (x .numbers .last) (x .numbers .latest))))
+-- the header of the last block of a primary of n data bytes that is accepted: what was asked for, and the number that it gets
+abbrev pub acceptedAs : Terms → Exchange → Primary → ℕ → Header
+acceptedAs c x q n = headerOf (headerBytes (primaryHeader c q n (nextNumber (x .own) (x .numbers .last) (x .numbers .latest))))
 
 -- what is asked for was accepted for the place of this number: a primary, or its release; the others are for an incoming place
 abbrev pub ownTaken : Terms → Exchange → own.Seen → Request → own.Seen
-ownTaken c x s (primary q d) = own.asked (s .request) s (acceptedAs c x q)
+ownTaken c x s (primary q d) = own.asked (s .request) s (acceptedAs c x q (length d))
 ownTaken c x s (reply q f d) = s
 ownTaken c x s (free-own q) = own.at s own.none
 ownTaken c x s (free-incoming q) = s

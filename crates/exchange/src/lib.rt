@@ -9,14 +9,17 @@ use place::Incoming;
 use place::Own;
 use place::Reply;
 use place::Standing;
+use reports::Reports;
 
-// The state: four own places, four incoming places, the saved header, the transaction numbers, and what is being sent.
+// The state: four own places, four incoming places, the saved header, the transaction numbers, what is being sent, and the reports that
+// wait.
 pub struct Exchange {
     pub own: [Own; 4],
     pub incoming: [Incoming; 4],
     pub saved: Saved,
     pub numbers: Numbers,
     pub sending: Sending,
+    pub reports: Reports,
 }
 
 // The header of the block that came last and was no duplicate (E4 7.4.2), if any is saved; "none at a start".
@@ -31,7 +34,8 @@ pub struct Numbers {
     pub latest: u16,
 }
 
-// The one message that is being sent or held: whose it is, and how many data bytes it has.
+// The one message that is being sent or held: whose it is, and how many data bytes it has. A report of stream 9 has no place: what is
+// being sent is told by its function and its number, and what it shows lies with those that wait (`Reports`).
 pub enum Sending {
     Nothing,
     Primary {
@@ -43,12 +47,25 @@ pub enum Sending {
         function: u8,
         length: u16,
     },
+    Report {
+        function: u8,
+        number: u16,
+    },
 }
 
-// The message to be cut into blocks: its header, in which block number and E are 0, and how many data bytes lie in the send area.
+// The message to be cut into blocks: its header, whose block number and E do not count, for each block gets its own, and how many data
+// bytes lie in the send area; or a report, of which nothing lies there.
 pub enum Outgoing {
     Nothing,
     Message { header: Header, length: u16 },
+    Report { function: u8, number: u16 },
+}
+
+// The part of the state that a report touches: the last number given, what is being sent, and the reports that wait.
+pub struct Outbox {
+    pub last: u16,
+    pub sending: Sending,
+    pub reports: Reports,
 }
 
 // What judging leaves: the next state, the note, and flags.

@@ -1,6 +1,7 @@
 // Judging a block that went up (01, "A block that goes up is judged in this order"; E4 7.4).
 ghost use mathlib.Core.Path.{_≡_};
-ghost use Rattle.exchange.specs.Judge.{beginsAt, isDuplicate, isMisrouted, judgeOf, judging, keepBy, lastBy, messageBlock, newBlock, noReplyBlock, primaryBlock, replyBlock, sameBytes, spoiltBy, takesPlace, thrownAs};
+ghost use Rattle.exchange.specs.Judge.{beginsAt, causedBy, isDuplicate, isMisrouted, judgeOf, judging, keepBy, lastBy, messageBlock, newBlock, noReplyBlock, primaryBlock, replyBlock, rulesOf, sameBytes, spoiltBy, takesPlace, thrownAs};
+ghost use Rattle.judging.specs.Short;
 use desk::got_verdict;
 use desk::incoming_flags;
 use desk::incoming_place;
@@ -14,12 +15,15 @@ use desk::with_saved;
 use exchange::Exchange;
 use exchange::Judged;
 use exchange::Note;
+use exchange::Outbox;
+use exchange::Sending;
 use header::Header;
 use life::begins_primary;
 use life::fate_of;
 use life::incoming;
 use life::own;
 use place::Fate;
+use reports::Report;
 use room::Message;
 use seek::free_incoming;
 use seek::message_for;
@@ -243,15 +247,9 @@ fn new_block(exchange: Exchange, header: Header, data: &[u8], room: &mut [u8]) -
     }
 }
 
-// A block went up: its ten header bytes, and its data.
-pub fn judge(
-    exchange: Exchange,
-    terms: Terms,
-    header: [u8; 10],
-    data: &[u8],
-    room: &mut [u8],
-) -> Judged
-    ensures { λ r. ⌜ judging r (now (room .exit)) ≡ judgeOf terms exchange header (now («data» .entry)) (now (room .entry)) ⌝ }
+// The seven rules in their order, for a block with these ten header bytes and this data.
+fn rules(exchange: Exchange, terms: Terms, header: [u8; 10], data: &[u8], room: &mut [u8]) -> Judged
+    ensures { λ r. ⌜ judging r (now (room .exit)) ≡ rulesOf terms exchange header (now («data» .entry)) (now (room .entry)) ⌝ }
 {
     let said = Header::from_bytes(header);
     if is_misrouted(terms, said) {
@@ -261,4 +259,97 @@ pub fn judge(
         return thrown(exchange, Note::Duplicate);
     }
     new_block(with_saved(exchange, header), said, data, room)
+}
+
+// Whether a note causes a report.
+fn causes(note: Note) -> bool
+    ensures { λ r. ⌜ r ≡ Rattle.judging.specs.Short.causes note ⌝ }
+{
+    match note {
+        Note::Kept => false,
+        Note::Misrouted => true,
+        Note::Duplicate => false,
+        Note::Stray => false,
+        Note::NoPlace => false,
+        Note::TooLong => true,
+        Note::Empty => false,
+    }
+}
+
+// "A misrouted block gives S9F1 .. a message over the limit gives S9F11", with "the ten header bytes of the offending block". `exchange`
+// is what the seven rules left.
+fn caused_by(
+    note: Note,
+    terms: Terms,
+    exchange: Exchange,
+    header: [u8; 10],
+    outbox: Outbox,
+) -> Outbox
+    ensures { λ r. ⌜ r ≡ causedBy note terms exchange header outbox ⌝ }
+{
+    let own = exchange.own;
+    let latest = exchange.numbers.latest;
+    match note {
+        Note::Kept => outbox,
+        Note::Misrouted => {
+            let report = Report {
+                function: 1,
+                header,
+            };
+            desk::caused(terms, own, latest, outbox, report)
+        }
+        Note::Duplicate => outbox,
+        Note::Stray => outbox,
+        Note::NoPlace => outbox,
+        Note::TooLong => {
+            let report = Report {
+                function: 11,
+                header,
+            };
+            desk::caused(terms, own, latest, outbox, report)
+        }
+        Note::Empty => outbox,
+    }
+}
+
+// What is reported of it, where `before` was being sent: a block that ends it frees the line first.
+fn reporting(judged: Judged, terms: Terms, before: Sending, header: [u8; 10]) -> Judged
+    ensures { λ r. ⌜ r ≡ Rattle.exchange.specs.Judge.reporting terms before header judged ⌝ }
+{
+    let exchange = judged.exchange;
+    let note = judged.note;
+    let flags = judged.flags;
+    let freed = desk::freed_in(before, exchange);
+    let outbox = caused_by(note, terms, exchange, header, freed);
+    let exchange = desk::with_outbox(exchange, outbox);
+    Judged {
+        exchange,
+        note,
+        flags,
+    }
+}
+
+// A block went up: its ten header bytes, and its data. Behind the rules come the reports; where there is no cause and nothing ended, as
+// with most blocks, the state is not put together anew.
+pub fn judge(
+    exchange: Exchange,
+    terms: Terms,
+    header: [u8; 10],
+    data: &[u8],
+    room: &mut [u8],
+) -> Judged
+    ensures { λ r. ⌜ judging r (now (room .exit)) ≡ judgeOf terms exchange header (now («data» .entry)) (now (room .entry)) ⌝ }
+{
+    let before = exchange.sending;
+    let judged = rules(exchange, terms, header, data, room);
+    let note = judged.note;
+    if causes(note) {
+        return reporting(judged, terms, before, header);
+    }
+    let after = judged.exchange;
+    let sending = after.sending;
+    if desk::is_over(before, sending) {
+        return reporting(judged, terms, before, header);
+    }
+    judged
 }

@@ -3,6 +3,7 @@ pub mod Line
 pub mod Transactions
 pub mod Reached
 pub mod Places
+pub mod Tens
 pub mod Rests
 pub mod Agrees
 pub mod Range

@@ -1,3 +1,3 @@
-pub mod Given
 pub mod Kept
+pub mod Given
 pub mod Distinct

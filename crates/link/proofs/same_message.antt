@@ -5,6 +5,9 @@ pub mod Reaches
 pub mod PutsOut
 pub mod Carries
 pub mod Stands
+pub mod Resting
+pub mod Alone
+pub mod Freed
 pub mod Asks
 pub mod Delivers
 pub mod Replies

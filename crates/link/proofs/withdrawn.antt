@@ -1,3 +1,3 @@
 pub mod Over
-pub mod Alone
 pub mod Master
+pub mod Alone

@@ -8,6 +8,7 @@ use Rattle.line.specs.Line.{askOf, withdrawOf}
 use Rattle.line.specs.declared.line.Line.{Line}
 use Rattle.line.specs.declared.step.Told.{Told}
 use Rattle.line.specs.declared.step.Told.the-variants as told
+use Rattle.exchange.specs.Reports.{sameMessage}
 use Rattle.exchange.specs.Request.{sendingBy}
 use Rattle.exchange.specs.declared.Sending.{Sending}
 use Rattle.link.specs.declared.Carried.{Carried}
@@ -23,15 +24,20 @@ goesOn told.Sent l k = carried (askOf l) (k + 1)
 goesOn told.Failed l k = carried l k
 goesOn (told.Up n) l k = carried l k
 
--- by whether a message was being sent before, and is now: one that began is asked for from its first block ("numbers start at 1"); one
--- that is gone is withdrawn from the line, and no block is on its way: so is one that was proved received by its reply (02, request 1)
-abbrev pub courierBy : Bool → Bool → Told → Line → ℕ → Carried
-courierBy false false t l k = carried l k
-courierBy false true t l k = carried (askOf l) 1
-courierBy true false t l k = carried (withdrawOf l) 1
-courierBy true true t l k = goesOn t l k
+-- a message that began: it is asked for from its first block ("numbers start at 1")
+abbrev pub begins : Line → Carried
+begins l = carried (askOf l) 1
 
--- "one message sent at a time": so that a message is being sent before and after a call means that it is the same one. The room is lent
--- to the courier; none of its bytes counts.
+-- by whether the message is the same as before, whether one was being sent before, and whether one is now: another one is asked for from
+-- its first block, also a report that starts as a message ends (02, request 2); one that is gone is withdrawn from the line, and no block is
+-- on its way: so is one that was proved received by its reply (02, request 1)
+abbrev pub courierBy : Bool → Bool → Bool → Told → Line → ℕ → Carried
+courierBy same false false t l k = carried l k
+courierBy same false true t l k = begins l
+courierBy same true false t l k = carried (withdrawOf l) 1
+courierBy true true true t l k = goesOn t l k
+courierBy false true true t l k = begins l
+
+-- The room is lent to the courier; none of its bytes counts.
 abbrev pub courierOf : Sending → Sending → Told → Line → ℕ → List ℕ → Carried
-courierOf before after t l k room = courierBy (sendingBy before) (sendingBy after) t l k
+courierOf before after t l k room = courierBy (sameMessage before after) (sendingBy before) (sendingBy after) t l k

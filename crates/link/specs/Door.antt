@@ -1,8 +1,8 @@
--- An onlooker at the door of the unit (demand 3). It sees which calls are made and whether they are refused, the bytes that leave, and
--- whether a message is being sent or held then. Of the unit's state it sees nothing.
+-- An onlooker at the door of the unit (demand 3). It sees which calls are made and whether they are refused, the bytes that leave, whether a
+-- message is being sent or held then, and which one. Of the unit's state it sees nothing.
 use Prim.Native.Nat.{ℕ, _+_, _≤_, _<_}
 use mathlib.Core.Path.{_≡_}
-use mathlib.Core.Bool.{Bool, true, false, cond, _&&_, _||_}
+use mathlib.Core.Bool.{Bool, true, false, cond, not, _&&_, _||_}
 use mathlib.Core.List.{List, [], _∷_, _++_}
 use mathlib.Core.Logic.{_⊎_}
 use lib.Dec.{eqb}
@@ -24,7 +24,8 @@ use Rattle.place.specs.declared.IncomingStage.the-variants as arrival
 use Rattle.exchange.specs.Exchange.{ownPlace, incomingPlace}
 use Rattle.link.specs.Answer.{accepted}
 use Rattle.link.specs.Run.{Left, blockBytes}
-use Rattle.link.specs.Reading.{sendingOf}
+use Rattle.exchange.specs.Reports.{sameMessage}
+use Rattle.link.specs.Reading.{sendingOf, messageOf}
 use Rattle.link.specs.History.{Call, byte, tick, drained, request, called, Room, lentRoom, Made, lineCalls, Track, answered, next, atStart}
 use Rattle.link.specs.Inside.{Reached}
 use Rattle.link.specs.declared.Outcome.{Outcome}
@@ -105,8 +106,10 @@ isFirst enquired k = false
 isFirst leaving k = false
 isFirst left k = line.comes ACK k
 
-abbrev pub begins : Ours → line.Call → List ℕ → Bool
-begins o k bs = endsInEnq bs && isFirst o k
+-- or it is another message's: `other` is whether another one is being sent than before the call. Behind a failed send the first ENQ of a report
+-- (02, request 2) would look like a retry else.
+abbrev pub begins : Ours → line.Call → List ℕ → Bool → Bool
+begins o k bs other = endsInEnq bs && (isFirst o k || other)
 
 -- ---- what the onlooker keeps, as that of a line does (line's specs/History.antt)
 
@@ -127,11 +130,11 @@ abbrev pub nothingWatched : Watch
 nothingWatched = record { ours = none; waited = 0; enqs = 0; theirs = false; took = 0; came = []; silent = 0 }
 
 -- a call that is not refused
-abbrev pub sees : Watch → line.Call → List ℕ → Bool → Watch
-sees w k bs sending = record {
+abbrev pub sees : Watch → line.Call → List ℕ → Bool → Bool → Watch
+sees w k bs sending other = record {
   ours = oursAfter (w .ours) k bs sending;
-  waited = cond (begins (w .ours) k bs) 0 (line.waits (w .ours) (w .waited) k);
-  enqs = cond (begins (w .ours) k bs) 1 (cond (endsInEnq bs) (w .enqs + 1) (w .enqs));
+  waited = cond (begins (w .ours) k bs other) 0 (line.waits (w .ours) (w .waited) k);
+  enqs = cond (begins (w .ours) k bs other) 1 (cond (endsInEnq bs) (w .enqs + 1) (w .enqs));
   theirs = cond (alone EOT bs) true (cond (closes bs) false (w .theirs));
   took = cond (alone EOT bs) 0 (line.tookAfter (w .theirs) (w .took) k);
   came = cond (alone EOT bs) [] (line.bytesAfter (w .theirs) (w .came) k);
@@ -139,18 +142,26 @@ sees w k bs sending = record {
 }
 
 -- "a refused call is no tick and no byte in any rule or limit"
-abbrev pub seesBy : Outcome → Watch → line.Call → List ℕ → Bool → Watch
-seesBy outcome.Done w k bs sending = sees w k bs sending
-seesBy (outcome.Taken p) w k bs sending = sees w k bs sending
-seesBy (outcome.Refused r) w k bs sending = w
+abbrev pub seesBy : Outcome → Watch → line.Call → List ℕ → Bool → Bool → Watch
+seesBy outcome.Done w k bs sending other = sees w k bs sending other
+seesBy (outcome.Taken p) w k bs sending other = sees w k bs sending other
+seesBy (outcome.Refused r) w k bs sending other = w
 
-abbrev pub watches : Watch → Call → Left → Watch
-watches w k l = seesBy (l .answer .outcome) w (kind k) (bytesLeft l) (sendingOf (l .answer .link))
+-- another message is being sent behind a call of unit u than before it
+abbrev pub otherSent : Link → Left → Bool
+otherSent u l = not (sameMessage (messageOf u) (messageOf (l .answer .link)))
+
+abbrev pub watches : Watch → Link → Call → Left → Watch
+watches w u k l = seesBy (l .answer .outcome) w (kind k) (bytesLeft l) (sendingOf (l .answer .link)) (otherSent u l)
+
+-- what the onlooker has seen behind one call more of a track
+abbrev pub watchedOn : Watch → Track → Made → Watch
+watchedOn w t m = watches w (t .link) (m .call) (answered t m)
 
 -- along the calls that a track makes
 unfoldable pub watched : Watch → Track → List Made → Watch
 watched w t [] = w
-watched w t (m ∷ ms) = watched (watches w (m .call) (answered t m)) (next t m) ms
+watched w t (m ∷ ms) = watched (watchedOn w t m) (next t m) ms
 
 -- what the onlooker of the line inside sees, without what is owed
 abbrev pub watchOf : Seen → Watch
@@ -213,17 +224,31 @@ EachEnqItsBlock =
     Always (λ t w. w .ours ≡ enquired → (fits : EOT < 256) (room : Room) (o : List ℕ) → accepted (answered t (made (byte EOT fits) room o) .answer .outcome) ≡ true
     → bytesLeft (answered t (made (byte EOT fits) room o)) ≡ blockBytes (t .link) (lentRoom room (t .room)))
 
--- What ends a send, and nothing else does: ACK while it is waited for, where no block follows; as many ENQs as RTY allows; at the slave, an
--- ENQ while EOT is waited for: EOT leaves, and the message is held. Otherwise none is being sent then.
-pub data Stops (c : Limits) (w : Watch) (k : line.Call) (bs : List ℕ) (sending : Bool) (after : Watch) : Type 0 where
-  sent : w .ours ≡ left → line.comes ACK k ≡ true → bs ≡ [] → sending ≡ false → Stops c w k bs sending after
-  failed : after .enqs ≡ c .rty + 1 → bs ≡ [] → sending ≡ false → Stops c w k bs sending after
-  gave-way : c .master ≡ false → w .ours ≡ enquired → line.comes ENQ k ≡ true → bs ≡ EOT ∷ [] → sending ≡ true → Stops c w k bs sending after
+-- the first ENQ of a report that starts in the call which ends a message; none, if nothing is being sent then (02, request 2)
+abbrev pub startsEnq : Bool → List ℕ
+startsEnq sending = cond sending (ENQ ∷ []) []
 
+-- What ends a send, and nothing else does: ACK while it is waited for, where no block follows; as many ENQs as RTY allows; at the slave, an
+-- ENQ while EOT is waited for: EOT leaves, and the message is held. Otherwise none is being sent then, or a report whose ENQ leaves.
+pub data Stops (c : Limits) (w : Watch) (k : line.Call) (bs : List ℕ) (sending other : Bool) : Type 0 where
+  sent : w .ours ≡ left → line.comes ACK k ≡ true → bs ≡ startsEnq sending → other ≡ true → Stops c w k bs sending other
+  failed : w .enqs ≡ c .rty + 1 → bs ≡ startsEnq sending → other ≡ true → Stops c w k bs sending other
+  gave-way :
+      c .master ≡ false → w .ours ≡ enquired → line.comes ENQ k ≡ true → bs ≡ EOT ∷ [] → sending ≡ true → other ≡ false
+      → Stops c w k bs sending other
+
+-- A block's send is over: none is under way, or another message is being sent.
 abbrev pub SendEndsBy : Type 0
 SendEndsBy =
-    (t : Track) (w : Watch) (a : AtDoor t w) (m : Made) → onWay (w .ours) ≡ true → onWay (watches w (m .call) (answered t m) .ours) ≡ false
-    → Stops (a .reached .settings .limits) w (kind (m .call)) (bytesLeft (answered t m)) (sendingOf (next t m .link)) (watches w (m .call) (answered t m))
+    (t : Track) (w : Watch) (a : AtDoor t w) (m : Made) → onWay (w .ours) ≡ true
+    → (onWay (watchedOn w t m .ours) ≡ false) ⊎ (otherSent (t .link) (answered t m) ≡ true)
+    → Stops (a .reached .settings .limits) w (kind (m .call)) (bytesLeft (answered t m)) (sendingOf (next t m .link)) (otherSent (t .link) (answered t m))
+
+-- What a report's block has waited is counted from its own first ENQ, which leaves in the call that ends the message before it.
+abbrev pub OtherStartsAnew : Type 0
+OtherStartsAnew =
+    (t : Track) (w : Watch) → AtDoor t w → (m : Made) → onWay (w .ours) ≡ true → otherSent (t .link) (answered t m) ≡ true
+    → sendingOf (next t m .link) ≡ true → (watchedOn w t m .waited ≡ 0) × (watchedOn w t m .enqs ≡ 1)
 
 -- "A held block .. : its ENQ leaves in the call that made the line idle": a message with no block under way waits for the end of a receive
 abbrev pub NoneForgotten : Type 0
@@ -255,7 +280,7 @@ OverBy c line.withdraw bs sending after = ⊥
 abbrev pub ReceiveEndsBy : Type 0
 ReceiveEndsBy =
     (t : Track) (w : Watch) (a : AtDoor t w) (m : Made) → closes (bytesLeft (answered t m)) ≡ true
-    → OverBy (a .reached .settings .limits) (kind (m .call)) (bytesLeft (answered t m)) (sendingOf (next t m .link)) (watches w (m .call) (answered t m))
+    → OverBy (a .reached .settings .limits) (kind (m .call)) (bytesLeft (answered t m)) (sendingOf (next t m .link)) (watchedOn w t m)
 
 -- with a block held, 0605 or 1505: "its ENQ leaves in the call that made the line idle, after the ACK or NAK"
 abbrev pub HeldFollows : Type 0
@@ -288,7 +313,7 @@ triedBy (outcome.Refused r) o n k bs = n
 unfoldable pub tried : ℕ → Watch → Track → List Made → ℕ
 tried n w t [] = n
 tried n w t (m ∷ ms) =
-    tried (triedBy (answered t m .answer .outcome) (w .ours) n (kind (m .call)) (bytesLeft (answered t m))) (watches w (m .call) (answered t m)) (next t m) ms
+    tried (triedBy (answered t m .answer .outcome) (w .ours) n (kind (m .call)) (bytesLeft (answered t m))) (watchedOn w t m) (next t m) ms
 
 abbrev pub SendTimer : Phase → ℕ → Type 0
 SendTimer Idle n = Unit {0}

@@ -17,7 +17,7 @@ use Rattle.exchange.specs.History as exchange
 use Rattle.link.specs.Answer.{accepted, noteNumber, noteBy}
 use Rattle.link.specs.Reading.{sendingOf}
 use Rattle.link.specs.History.{Call, byte, tick, drained, request, cameTo, lineCalls, Made, Track, answered, next, atStart}
-use Rattle.link.specs.Door.{bytesLeft, tried, Watch, nothingWatched, AtDoor, followed}
+use Rattle.link.specs.Door.{bytesLeft, tried, Watch, nothingWatched, AtDoor, startsEnq, followed}
 use Rattle.link.specs.Verdicts.{Accepted, Tells}
 use Rattle.link.specs.declared.Note.{Note}
 use Rattle.link.specs.declared.Link.{Link}
@@ -74,7 +74,8 @@ pub record AwaitingEot (c : Limits) (b : ℕ) (bs : List ℕ) (sending : Bool) :
 -- RTY the send has failed and the line is idle; else ENQ again.": so many ENQs left for this block
 pub record AwaitingAck (c : Limits) (enqs b : ℕ) (bs : List ℕ) (sending : Bool) : Type 0 where
   pub again : b ≢ ACK → enqs ≤ c .rty → bs ≡ ENQ ∷ []
-  pub failed : b ≢ ACK → c .rty < enqs → (bs ≡ []) × (sending ≡ false)
+  -- the first ENQ of a report leaves, if one waited (02, request 2)
+  pub failed : b ≢ ACK → c .rty < enqs → bs ≡ startsEnq sending
 
 -- From our EOT on, with the bytes that came since: "Equal sums: ACK, and the block goes up. Else listen for silence." No other byte is
 -- answered. Behind the ACK leaves the ENQ of a block that is held.
@@ -96,7 +97,7 @@ ByteGets c left theirs enqs came b bs sending = AwaitingAck c enqs b bs sending
 pub record Waiting (c : Limits) (enqs since : ℕ) (bs : List ℕ) (sending : Bool) : Type 0 where
   pub in-time : since + 1 ≤ c .t2 .0 → (bs ≡ []) × (sending ≡ true)
   pub again : c .t2 .0 < since + 1 → enqs ≤ c .rty → bs ≡ ENQ ∷ []
-  pub failed : c .t2 .0 < since + 1 → c .rty < enqs → (bs ≡ []) × (sending ≡ false)
+  pub failed : c .t2 .0 < since + 1 → c .rty < enqs → bs ≡ startsEnq sending
 
 -- From our EOT on: before the length "Beyond T2: NAK.", behind it "Beyond T1: NAK." (`patience`, line/specs/Theorems.antt), so many ticks
 -- since the last byte, and the ENQ of a held block behind it
@@ -105,7 +106,8 @@ pub record Listening (c : Limits) (came : List ℕ) (silent : ℕ) (bs : List �
   pub beyond : patience c came < silent + 1 → bs ≡ followed NAK sending
 
 abbrev pub TickGets : Limits → Ours → Bool → ℕ → ℕ → List ℕ → ℕ → List ℕ → Bool → Type 0
-TickGets c none false enqs since came silent bs sending = bs ≡ []
+-- the first ENQ of a report that a verdict 6 causes (02, request 2)
+TickGets c none false enqs since came silent bs sending = bs ≡ startsEnq sending
 TickGets c none true enqs since came silent bs sending = Listening c came silent bs sending
 TickGets c enquired theirs enqs since came silent bs sending = Waiting c enqs since bs sending
 -- "Ticks while draining count for no line timer."

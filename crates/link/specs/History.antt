@@ -15,6 +15,7 @@ use Rattle.line.specs.declared.step.Told.{Told}
 use Rattle.line.specs.declared.step.Told.the-variants as told
 use Rattle.place.specs.OwnHistory as own
 use Rattle.place.specs.IncomingHistory as incoming
+use Rattle.exchange.specs.Reports.{sameMessage}
 use Rattle.exchange.specs.Request.{Request, answerOf, lends, isSending}
 use Rattle.exchange.specs.History as exchange
 use Rattle.exchange.specs.Watching.{ownSees, incomingSees, watch}
@@ -119,11 +120,12 @@ goingOn told.Sent = line.ask ∷ []
 goingOn told.Failed = []
 goingOn (told.Up n) = []
 
-abbrev pub couriers : Bool → Bool → Told → List line.Call
-couriers false false t = []
-couriers false true t = line.ask ∷ []
-couriers true false t = line.withdraw ∷ []
-couriers true true t = goingOn t
+abbrev pub couriers : Bool → Bool → Bool → Told → List line.Call
+couriers same false false t = []
+couriers same false true t = line.ask ∷ []
+couriers same true false t = line.withdraw ∷ []
+couriers true true true t = goingOn t
+couriers false true true t = line.ask ∷ []
 
 -- the line settles behind the courier
 abbrev pub settling : List line.Call → List line.Call
@@ -136,7 +138,9 @@ settles (out.Code c) ks = settling ks
 settles out.Block ks = []
 
 abbrev pub couriersIn : Link → List ℕ → Call → List line.Call
-couriersIn u room k = couriers (isSending (u .exchange)) (isSending (exchangeIn u room k)) (stepIn u k .step .told)
+couriersIn u room k =
+    couriers (sameMessage (u .exchange .sending) (exchangeIn u room k .sending)) (isSending (u .exchange)) (isSending (exchangeIn u room k))
+    (stepIn u k .step .told)
 
 -- what a call is to the line: a release nothing
 abbrev pub onLine : Link → List ℕ → Call → List line.Call

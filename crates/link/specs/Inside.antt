@@ -5,7 +5,7 @@ use Prim.Native.Nat.{ℕ, _+_, _≤_, _<_}
 use mathlib.Core.Path.{_≡_}
 use mathlib.Core.Bool.{Bool, true, false}
 use mathlib.Core.List.{List, [], _∷_}
-use mathlib.Core.Logic.{_≢_}
+use mathlib.Core.Logic.{_≢_, _⊎_}
 use lib.ListN.{length}
 use Rattle.header.specs.declared.header.Header.{Header}
 use Rattle.wire.specs.Message.{messageLimit}
@@ -24,6 +24,7 @@ use Rattle.line.specs.declared.step.Told.the-variants as told
 use Rattle.exchange.specs.History as exchange
 use Rattle.exchange.specs.Theorems.{Reached as ExchangeReached}
 use Rattle.exchange.specs.Watching.{OwnAt, IncomingAt}
+use Rattle.exchange.specs.Reports.{reportHeader, reportBody}
 use Rattle.exchange.specs.Request.{sendingBy, isSending}
 use Rattle.exchange.specs.Send.{outgoingOf}
 use Rattle.exchange.specs.declared.Sending.{Sending}
@@ -155,9 +156,9 @@ pub record Handed (before after : Sending) (t : Told) (l : Line) : Type 0 where
   -- before the step the line was busy exactly if a message was being sent; what was told is what became of that
   pub turned : Turns t (sendingBy before) (busy l)
   -- a message whose send has failed is not sent on
-  pub failed : t ≡ told.Failed → sendingBy after ≡ false
+  pub failed : t ≡ told.Failed → after ≢ before
   -- no block of a message that is gone is under way
-  pub gone : sendingBy after ≡ false → underWay (l .phase) ≡ false
+  pub gone : after ≢ before → underWay (l .phase) ≡ false
 
 -- what it makes of line l, by whether a message is being sent then
 pub record LineCarried (sending : Bool) (l m : Line) : Type 0 where
@@ -171,8 +172,8 @@ pub record LineCarried (sending : Bool) (l m : Line) : Type 0 where
 
 -- and of block k, that was on its way or held
 pub record BlockCarried (before after : Sending) (t : Told) (k n : ℕ) : Type 0 where
-  -- "numbers start at 1"
-  pub begun : sendingBy before ≡ false → sendingBy after ≡ true → n ≡ 1
+  -- "numbers start at 1", also of a message that follows another in one call
+  pub begun : after ≢ before → sendingBy after ≡ true → n ≡ 1
   -- it is 1 also where no message is being sent, if it was so before
   pub none : (sendingBy before ≡ false → k ≡ 1) → sendingBy after ≡ false → n ≡ 1
   -- "ACK means sent; the message's next block goes out with ENQ in the same call"
@@ -198,6 +199,8 @@ pub record Agree (t : Track) : Type 0 where
   pub first : 1 ≤ t .link .block
   pub most : t .link .block ≤ mostBlocks
   pub within : (h : Header) (n : ℕ) → outgoingOf (t .link .exchange) ≡ outgoing.Message h n → (t .link .block ≤ blockCount n) × (n ≤ messageLimit)
+  -- a report is one block
+  pub report : (f n : ℕ) → outgoingOf (t .link .exchange) ≡ outgoing.Report f n → t .link .block ≡ 1
   -- none is on its way where no message is being sent
   pub idle : isSending (t .link .exchange) ≡ false → t .link .block ≡ 1
 
@@ -216,9 +219,19 @@ pub record Whole (t : Track) : Type 0 where
       (room : List ℕ)
       → blockBytes (t .link) room ≡ blockOf (headerAt header size (t .link .block)) (bytesIn room message.Send (partStart (t .link .block)) (partLength size (t .link .block)))
 
+-- or a report is being sent, of which no byte lies in the room
+pub record WholeReport (t : Track) : Type 0 where
+  pub function : ℕ
+  pub number : ℕ
+  pub sent : outgoingOf (t .link .exchange) ≡ outgoing.Report function number
+  pub bytes :
+      (room : List ℕ)
+      → blockBytes (t .link) room ≡ blockOf (reportHeader (termsIn t .device) function number) (reportBody (t .link .exchange .reports .shown))
+
 -- "EOT puts out the whole block": where the line has it put out, there is one
 abbrev pub WholeBlock : Type 0
-WholeBlock = Always (λ t. (b : ℕ) → byteOf (limitsIn t) (t .link .line) b (t .link .received) .step .out ≡ out.Block → Whole t)
+WholeBlock =
+    Always (λ t. (b : ℕ) → byteOf (limitsIn t) (t .link .line) b (t .link .received) .step .out ≡ out.Block → Whole t ⊎ WholeReport t)
 
 -- ---- ranges
 

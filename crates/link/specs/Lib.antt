@@ -19,3 +19,4 @@ pub mod Hearing
 pub mod Withdrawn
 pub mod SameMessage
 pub mod Table
+pub mod Reporting

@@ -117,7 +117,7 @@ pub data OwnStep (t : Track) (m : Made) (p : ℕ) : own.Seen → Type 0 where
   -- a send fails by a byte, or by a tick
   loses : (Ticks t m → ⊥) → Loses t m p → OwnStep t m p (own.at (t .own p) own.lost)
   loses-passing : Ticks t m → Loses t m p → OwnStep t m p (passed (own.at (t .own p) own.lost))
-  opens : (q : Primary) → Opens t m p q → OwnStep t m p (underwayWith (t .own p) (acceptedAs (termsIn t) (t .link .exchange) q))
+  opens : (q : Primary) (w : Opens t m p q) → OwnStep t m p (underwayWith (t .own p) (acceptedAs (termsIn t) (t .link .exchange) q (length (w .rest))))
   -- all counts start with the first time that the last block is out, and anew with its ACK
   goes-out : FirstOut t m p → OwnStep t m p (own.counting (t .own p) own.out)
   acknowledges : Acknowledges t m p → OwnStep t m p (own.counting (t .own p) own.acknowledged)
@@ -180,8 +180,9 @@ pub record OwnMoves (t : Track) (m : Made) (p : ℕ) : Type 0 where
   pub header-stays : ((q : Primary) → Opens t m p q → ⊥) → next t m .own p .header ≡ t .own p .header
   -- a request is underway from the call in which it is accepted, with the header as it was asked for and the number given
   pub opened :
-      (q : Primary) → Opens t m p q
-      → (t .own p .request ≡ own.none) × (next t m .own p ≡ underwayWith (t .own p) (acceptedAs (termsIn t) (t .link .exchange) q))
+      (q : Primary) (w : Opens t m p q)
+      → (t .own p .request ≡ own.none)
+      × (next t m .own p ≡ underwayWith (t .own p) (acceptedAs (termsIn t) (t .link .exchange) q (length (w .rest))))
   pub opened-only : Becomes t m p own.underway → (q : Primary) × Opens t m p q
   -- out exactly from the first time that the last block of a primary with W = 1 is put out
   pub out : Becomes t m p own.out ↔ FirstOut t m p
@@ -229,7 +230,8 @@ UnderwayExactly = AtEach (λ t p. OnItsWay (t .own p .request) ↔ (sentFrom (t 
 -- The header of an accepted request is as it was asked for, with the number given.
 abbrev pub HeaderAsAsked : Type 0
 HeaderAsAsked =
-    (c : Terms) (x : Exchange) (q : Primary) → InRange (primaryHeader c q (numberGiven x)) → AsAsked c q (numberGiven x) (acceptedAs c x q)
+    (c : Terms) (x : Exchange) (q : Primary) (n : ℕ)
+    → InRange (primaryHeader c q n (numberGiven x)) → AsAsked c q n (numberGiven x) (acceptedAs c x q n)
 
 -- ---- how the onlooker of incoming place p moves
 
@@ -366,13 +368,25 @@ pub record PlacesStay (before after : Track) : Type 0 where
 abbrev pub StrayLeaves : Type 0
 StrayLeaves = (t : Track) (m : Made) → Stray t m → PlacesStay t (next t m)
 
--- "note 22, saved header kept"; "note 23; no timer, place or byte of room changes": nothing of the transactions does
+-- "note 23; no timer, place or byte of room changes": nothing of the transactions does
 pub record AllStays (t : Track) (m : Made) : Type 0 where
   pub exchange : next t m .link .exchange ≡ t .link .exchange
   pub room : answered t m .room ≡ lentRoom (m .room) (t .room)
 
 abbrev pub DuplicateLeaves : Type 0
-DuplicateLeaves = (t : Track) (m : Made) → (noted t m ≡ 22) ⊎ (noted t m ≡ 23) → AllStays t m
+DuplicateLeaves = (t : Track) (m : Made) → noted t m ≡ 23 → AllStays t m
+
+-- "note 22, saved header kept": nothing does either, but what a report changes (02, request 2), and at a host nothing at all
+pub record MisroutedStays (t : Track) (m : Made) : Type 0 where
+  pub own : next t m .link .exchange .own ≡ t .link .exchange .own
+  pub incoming : next t m .link .exchange .incoming ≡ t .link .exchange .incoming
+  pub saved : next t m .link .exchange .saved ≡ t .link .exchange .saved
+  pub latest : next t m .link .exchange .numbers .latest ≡ t .link .exchange .numbers .latest
+  pub room : answered t m .room ≡ lentRoom (m .room) (t .room)
+  pub host : termsIn t .host ≡ true → AllStays t m
+
+abbrev pub MisroutedLeaves : Type 0
+MisroutedLeaves = (t : Track) (m : Made) → noted t m ≡ 22 → MisroutedStays t m
 
 -- Any byte with which no block goes up leaves each own place as it is but that of the primary being sent: so the far end's bytes touch
 -- no request that is acknowledged, but by a block of its reply.

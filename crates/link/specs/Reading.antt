@@ -6,6 +6,7 @@ use Rattle.room.specs.Room.{bytesIn}
 use Rattle.room.specs.declared.Message.the-variants as message
 use Rattle.exchange.specs.Reading.{ownReading, incomingReading}
 use Rattle.exchange.specs.Request.{isSending}
+use Rattle.exchange.specs.declared.Sending.{Sending}
 use Rattle.exchange.specs.declared.OwnReading.{OwnReading}
 use Rattle.exchange.specs.declared.OwnReading.the-variants as own
 use Rattle.exchange.specs.declared.IncomingReading.{IncomingReading}
@@ -36,3 +37,15 @@ incomingData u room p = messageBy (incomingOf u p) room p
 -- "a message is being sent or held"
 abbrev pub sendingOf : Link → Bool
 sendingOf u = isSending (u .exchange)
+
+-- which one: a primary of an own place, a reply of an incoming one, or a report with its function and number
+abbrev pub messageOf : Link → Sending
+messageOf u = u .exchange .sending
+
+-- how many reports were dropped since the start (02, request 2)
+abbrev pub droppedOf : Link → ℕ
+droppedOf u = u .exchange .reports .dropped
+
+-- the last transaction number given: a scheduler keeps it for the next start, and reports take numbers unasked
+abbrev pub lastNumberOf : Link → ℕ
+lastNumberOf u = u .exchange .numbers .last

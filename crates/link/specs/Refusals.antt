@@ -24,6 +24,8 @@ use Rattle.place.specs.declared.Own.{Own}
 use Rattle.place.specs.declared.Incoming.{Incoming}
 use Rattle.exchange.specs.Exchange.{freshExchange, ownPlace, incomingPlace}
 use Rattle.exchange.specs.Flags.{noFlags}
+use Rattle.reports.specs.Reports.{reportsInRange}
+use Rattle.reports.specs.declared.Reports.{Reports}
 use Rattle.exchange.specs.Range.{sendingInRange, SendingFits}
 use Rattle.exchange.specs.Request.{Request, primary, reply, free-own, free-incoming, lends as lendsTo}
 use Rattle.exchange.specs.Releases.{isRelease}
@@ -98,6 +100,8 @@ pub record Fits (u : Link) : Type 0 where
   pub own : (p : ℕ) → p < 4 → OwnFits (ownPlace (u .exchange) p)
   pub incoming : (p : ℕ) → p < 4 → IncomingFits (incomingPlace (u .exchange) p)
   pub sending : SendingFits (u .exchange .sending)
+  -- "Up to 8 reports wait"
+  pub waiting : u .exchange .reports .count ≤ 8
 
 -- The tests that the unit makes of its parts ask for these ranges, and no more.
 pub record RangesExactly : Type 0 where
@@ -106,6 +110,7 @@ pub record RangesExactly : Type 0 where
   pub own : (o : Own) → ownInRange o ≡ true ↔ OwnFits o
   pub incoming : (i : Incoming) → incomingInRange i ≡ true ↔ IncomingFits i
   pub sending : (s : Sending) → sendingInRange s ≡ true ↔ SendingFits s
+  pub reports : (r : Reports) → reportsInRange r ≡ true ↔ (r .count ≤ 8)
   pub all : (u : Link) → linkInRange u ≡ true ↔ Fits u
 
 -- ---- the rows

@@ -22,6 +22,7 @@ use Rattle.line.specs.declared.step.Out.the-variants as out
 use Rattle.line.specs.declared.step.Told.{Told}
 use Rattle.line.specs.declared.step.Told.the-variants as told
 use Rattle.line.specs.declared.step.Remark.{Remark}
+use Rattle.exchange.specs.Reports.{reportHeader, reportBody}
 use Rattle.exchange.specs.Flags.{noFlags}
 use Rattle.exchange.specs.Send.{outgoingOf, putOutOf, sentOf, failedOf}
 use Rattle.exchange.specs.Tick.{tickOf as ticksOf}
@@ -66,6 +67,7 @@ leaves bs u k m room o = left (answerAs u (length bs) k (m .note) (m .flags)) ro
 abbrev pub nextIn : Outgoing → ℕ → Bool
 nextIn outgoing.Nothing k = false
 nextIn (outgoing.Message h n) k = ltb k (blockCount n)
+nextIn (outgoing.Report f n) k = false
 
 abbrev pub hasNext : Link → Bool
 hasNext u = nextIn (outgoingOf (u .exchange)) (u .block)
@@ -161,13 +163,16 @@ abbrev pub bytesBy : Cut → List ℕ → List ℕ
 bytesBy (cut.Block h start n) room = blockOf h (bytesIn room message.Send start n)
 bytesBy cut.NoBlock room = []
 
-abbrev pub blockIn : Outgoing → ℕ → List ℕ → List ℕ
-blockIn outgoing.Nothing k room = []
-blockIn (outgoing.Message h n) k room = bytesBy (cutOf h n k) room
+-- A report is one block, and no byte of it lies in the room: "the two bytes hex 21 0A, then the ten header bytes" that it shows (02,
+-- request 2).
+abbrev pub blockIn : ℕ → List ℕ → Outgoing → ℕ → List ℕ → List ℕ
+blockIn device shown outgoing.Nothing k room = []
+blockIn device shown (outgoing.Message h n) k room = bytesBy (cutOf h n k) room
+blockIn device shown (outgoing.Report f n) k room = blockOf (reportHeader device f n) (reportBody shown)
 
 -- the block of the message being sent that is on its way
 abbrev pub blockBytes : Link → List ℕ → List ℕ
-blockBytes u room = blockIn (outgoingOf (u .exchange)) (u .block) room
+blockBytes u room = blockIn (u .settings .terms .device) (u .exchange .reports .shown) (outgoingOf (u .exchange)) (u .block) room
 
 -- "EOT puts out the whole block": nothing else leaves, is judged or settles in that call. r is what the transactions made of it.
 abbrev pub blockOut : Link → Telling → List ℕ → List ℕ → Left

@@ -22,7 +22,7 @@ use Rattle.place.specs.declared.Standing.the-variants.{Open, Given}
 use Rattle.exchange.specs.Rules.{Duplicate}
 use Rattle.exchange.specs.Exchange.{freshExchange}
 use Rattle.exchange.specs.Refusals.{RepliesTo}
-use Rattle.exchange.specs.Assembly.{headerIn, ticksBefore, ReadyFor}
+use Rattle.exchange.specs.Assembly.{NoneLate, AnyPlace, headerIn, ticksBefore, ReadyFor}
 use Rattle.exchange.specs.declared.OwnReading.the-variants as own
 use Rattle.exchange.specs.declared.IncomingReading.the-variants as incoming
 use Rattle.exchange.specs.declared.ReplyStage.{ReplyStage}
@@ -187,6 +187,13 @@ ticksIn d w k = w k .enq + total (w k .byte) (bytesOn (length d) k)
 abbrev pub ticksInAll : List ℕ → (ℕ → Pauses) → ℕ
 ticksInAll d w = ticksBefore (ticksIn d w) (blockCount (length d))
 
+-- and at the sender, from its request on
+abbrev pub ticksOut : (ℕ → Pauses) → ℕ → ℕ
+ticksOut w k = w k .eot + w k .draining + w k .ack
+
+abbrev pub ticksOutAll : List ℕ → (ℕ → Pauses) → ℕ
+ticksOutAll d w = ticksBefore (ticksOut w) (blockCount (length d))
+
 -- there is a block k of message d
 pub record BlockOf (d : List ℕ) (k : ℕ) : Type 0 where
   pub least : 1 ≤ k
@@ -315,9 +322,10 @@ pub record GoesOut (a b : Track) (room far o : List ℕ) (q : Primary) (d : List
   pub as-asked : AsAsked q header
   pub shown : ownOf (openCall (a .link) q d room o .answer .link) p ≡ own.Place header Open noReply
   -- If the far end has a place for it (`ReadyFor`, exchange/specs/Assembly.antt), it comes there, whatever the pauses as long as no timer runs
-  -- out.
+  -- out: T3 of another transaction neither, at the end that would report it (`NoneLate`, exchange/specs/Assembly.antt).
   pub delivered :
       ReadyFor (termsIn b) (b .link .exchange) header d → (w : ℕ → Pauses) → InTime (a .link .settings) (b .link .settings) d w
+      → NoneLate (termsIn a) (a .link .exchange) (ticksOutAll d w) AnyPlace → NoneLate (termsIn b) (b .link .exchange) (ticksInAll d w) AnyPlace
       → Delivered o q d header p (a .link .exchange .saved) (laterBy o (b .link) far (ticksInAll d w)) (outward o w (endOf (a .link) room) (endOf (b .link) far) q d)
 
 -- Incoming place p of this end shows a complete message with header g of n bytes.
@@ -365,6 +373,7 @@ pub record ComesBack (a b : Track) (room far o : List ℕ) (p q f : ℕ) (r : Li
   pub returned :
       (Duplicate (termsIn a) (a .link .exchange) (headerIn header r 1) → ⊥)
       → (w : ℕ → Pauses) → InTime (b .link .settings) (a .link .settings) r w → a .own q .since + ticksIn r w 1 ≤ termsIn a .t3 .0
+      → NoneLate (termsIn b) (b .link .exchange) (ticksOutAll r w) AnyPlace → NoneLate (termsIn a) (a .link .exchange) (ticksInAll r w) (λ k. k ≢ q)
       → Returned o verdict p q f r g h header n (incomingData (b .link) far p) (b .link .exchange .saved) (laterBy o (a .link) room (ticksInAll r w))
       (homeward o w (endOf (b .link) far) (endOf (a .link) room) p f r)
 

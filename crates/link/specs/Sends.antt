@@ -1,12 +1,13 @@
 -- What leaves is what was accepted (demand 2, "What the unit sends"; 01, "Cutting", "The line"). An onlooker at the door keeps the message
--- that was accepted last, as it was asked for, and counts the ACKs heard for its blocks since: by these it tells what leaves whenever EOT
--- answers an ENQ of ours, and when the message has been sent. Over any calls from a start, refused ones among them. Each proof is in
--- `proofs/`.
+-- that was accepted last, as it was asked for, or the report that started since (02, request 2), and counts the ACKs heard for its blocks:
+-- by these it tells what leaves whenever EOT answers an ENQ of ours, and when the message has been sent. Over any calls from a start,
+-- refused ones among them. The ten bytes that a report shows are taken from the state: which they are is `ReportsKept`, and as they leave
+-- `ReportBytes` (specs/Reporting.antt). Each proof is in `proofs/`.
 use Prim.Native.Nat.{ℕ, _+_, _-_, _*_, _≤_, _<_}
 use mathlib.Core.Path.{_≡_}
 use mathlib.Core.Bool.{Bool, true, false, cond}
 use mathlib.Core.List.{List, [], _∷_}
-use mathlib.Core.Logic.{_↔_}
+use mathlib.Core.Logic.{_↔_, _≢_}
 use lib.Dec.{eqb}
 use lib.ListN.{length, take, drop}
 use Rattle.header.specs.Header.{InRange, numberedOf}
@@ -17,17 +18,20 @@ use Rattle.line.specs.Codes.{ENQ, EOT, ACK}
 use Rattle.line.specs.History.{Ours, none, enquired, leaving, left}
 use Rattle.place.specs.OwnHistory as own
 use Rattle.exchange.specs.Request.{Request, primary, reply, free-own, free-incoming}
-use Rattle.exchange.specs.Posting.{Post, nothingPosted, postTaken}
+use Rattle.exchange.specs.Reports.{sameMessage}
+use Rattle.exchange.specs.Posting.{Post, nothingPosted, postTaken, postReported}
+use Rattle.exchange.specs.declared.Sending.{Sending}
+use Rattle.exchange.specs.declared.Sending.the-variants as sending
 use Rattle.exchange.specs.Underway.{OnItsWay}
 use Rattle.exchange.specs.History as exchange
 use Rattle.exchange.specs.declared.OwnReading.{OwnReading}
 use Rattle.exchange.specs.declared.IncomingReading.{IncomingReading}
 use Rattle.exchange.specs.declared.ReplyStage.the-variants as stage
 use Rattle.link.specs.Run.{hasNext}
-use Rattle.link.specs.Reading.{ownOf, incomingOf, sendingOf}
+use Rattle.link.specs.Reading.{ownOf, incomingOf, sendingOf, messageOf}
 use Rattle.link.specs.History.{Call, byte, tick, drained, request, kept, Made, Track, termsIn, answered, next, atStart}
 use Rattle.link.specs.Inside.{Reached, Back}
-use Rattle.link.specs.Door.{bytesLeft, Watch, AtDoor, made}
+use Rattle.link.specs.Door.{bytesLeft, Watch, AtDoor, made, startsEnq}
 use Rattle.link.specs.Verdicts.{Accepted, Tells, replyStands}
 use Rattle.link.specs.Moves.{FirstOut, Acknowledges, ReplySent}
 use Rattle.link.specs.Device.{comes}
@@ -37,7 +41,7 @@ use Rattle.link.specs.declared.Outcome.the-variants as outcome
 -- ---- the onlooker
 
 pub record Sender : Type 0 where
-  -- the message that was accepted last: its header and its data
+  -- the message that was accepted, or the report that started, last: its header and its data
   pub message : Post
   -- which of its blocks is due: 1 + the ACKs heard for its blocks since
   pub block : ℕ
@@ -84,11 +88,23 @@ blockAfter ours c outcome.Done k = cond (acks ours c) (k + 1) k
 blockAfter ours c (outcome.Taken p) k = startsIn c k
 blockAfter ours c (outcome.Refused n) k = k
 
--- one call; what is waited for is seen at the door (`DoorRight`)
+-- a report started in the call, if what is being sent behind it is one, and the same was not before: it is due from its first block
+abbrev pub blockStarted : Bool → Sending → ℕ → ℕ
+blockStarted same sending.Nothing k = k
+blockStarted same (sending.Primary p n) k = k
+blockStarted same (sending.Reply p f n) k = k
+blockStarted true (sending.Report f n) k = k
+blockStarted false (sending.Report f n) k = 1
+
+-- one call; what is waited for is seen at the door (`DoorRight`), and which message is being sent is read there
 abbrev pub senderSees : Track → Sender → Made → Sender
 senderSees t s m = record {
-  message = messageAfter (termsIn t) (incomingOf (t .link)) (ownOf (next t m .link)) (m .call) (answered t m .answer .outcome) (s .message);
-  block = blockAfter (t .seen .ours) (m .call) (answered t m .answer .outcome) (s .block);
+  message =
+      postReported (termsIn t) (t .link .exchange) (next t m .link .exchange)
+      (messageAfter (termsIn t) (incomingOf (t .link)) (ownOf (next t m .link)) (m .call) (answered t m .answer .outcome) (s .message));
+  block =
+      blockStarted (sameMessage (messageOf (t .link)) (messageOf (next t m .link))) (messageOf (next t m .link))
+      (blockAfter (t .seen .ours) (m .call) (answered t m .answer .outcome) (s .block));
 }
 
 -- any calls
@@ -159,10 +175,11 @@ abbrev pub LastAcknowledged : Type 0
 LastAcknowledged = (t : Track) (w : Reached t) (m : Made) → SentAtLast t (senderSeen t w) m
 
 -- "ACK means sent; the message's next block goes out with ENQ in the same call": with as many ACKs as blocks the message has been sent, and
--- nothing leaves; before that its next block's ENQ does, and it is still being sent.
+-- nothing leaves but the first ENQ of a report that waited (02, request 2); before that its next block's ENQ does, and the same message is
+-- still being sent: no report starts between blocks.
 pub record AckHeard (t : Track) (s : Sender) (m : Made) : Type 0 where
-  pub more : s .block < blocksOf s → (bytesLeft (answered t m) ≡ ENQ ∷ []) × (sendingOf (next t m .link) ≡ true)
-  pub last : s .block ≡ blocksOf s → (bytesLeft (answered t m) ≡ []) × (sendingOf (next t m .link) ≡ false)
+  pub more : s .block < blocksOf s → (bytesLeft (answered t m) ≡ ENQ ∷ []) × (messageOf (next t m .link) ≡ messageOf (t .link))
+  pub last : s .block ≡ blocksOf s → (bytesLeft (answered t m) ≡ startsEnq (sendingOf (next t m .link))) × (messageOf (next t m .link) ≢ messageOf (t .link))
 
 abbrev pub AckGoesOn : Type 0
 AckGoesOn =

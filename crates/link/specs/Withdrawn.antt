@@ -5,11 +5,12 @@ use Prim.Native.Nat.{ℕ, _<_}
 use mathlib.Core.Path.{_≡_}
 use mathlib.Core.Bool.{true, false}
 use mathlib.Core.List.{List, [], _∷_}
-use mathlib.Core.Logic.{_↔_}
+use mathlib.Core.Logic.{_↔_, _≢_}
 use Rattle.settings.specs.declared.limits.Limits.{Limits}
 use Rattle.line.specs.Codes.{ENQ, ACK}
 use Rattle.line.specs.History.{none}
-use Rattle.link.specs.Reading.{sendingOf}
+use Rattle.exchange.specs.BeingSent.{NoneOrReport}
+use Rattle.link.specs.Reading.{sendingOf, messageOf}
 use Rattle.link.specs.History.{Made, Track, limitsIn, answered, next}
 use Rattle.link.specs.Inside.{Always}
 use Rattle.link.specs.Door.{bytesLeft, Watch, AtDoor}
@@ -33,11 +34,16 @@ pub data Over (c : Limits) (t : Track) (w : Watch) (since : ℕ) (s : Sender) (m
   -- "proved received by its reply"
   proved : ProvesOne t m → Over c t w since s m
 
--- A message that is "being sent or held" is so no more after a call exactly by one of these: else 7 goes on to refuse.
+-- A message, or a report, that is "being sent or held" is so no more after a call exactly by one of these: else 7 goes on to refuse for it.
 abbrev pub WithdrawnExactly : Type 0
 WithdrawnExactly =
     (t : Track) (w : Watch) (a : AtDoor t w) (m : Made) → sendingOf (t .link) ≡ true
-    → (sendingOf (next t m .link) ≡ false) ↔ Over (a .reached .settings .limits) t w (sinceSeen t w a) (senderSeen t (a .reached)) m
+    → (messageOf (next t m .link) ≢ messageOf (t .link)) ↔ Over (a .reached .settings .limits) t w (sinceSeen t w a) (senderSeen t (a .reached)) m
+
+-- No message of the caller's takes its place in that call: none is being sent then, or a report is (02, request 2).
+abbrev pub ReportFollows : Type 0
+ReportFollows =
+    Always (λ t. (m : Made) → sendingOf (t .link) ≡ true → messageOf (next t m .link) ≢ messageOf (t .link) → NoneOrReport (messageOf (next t m .link)))
 
 -- "Nothing changes for a master, which takes in nothing while it waits."
 abbrev pub MasterProvesNone : Type 0

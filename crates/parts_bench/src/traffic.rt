@@ -422,6 +422,13 @@ fn show_outgoing(outgoing: Outgoing) {
             show::text(b":");
             show::decimal(length as usize);
         }
+        // A report: its function and its number.
+        Outgoing::Report { function, number } => {
+            show::text(b":9:");
+            show::decimal(function as usize);
+            show::text(b":");
+            show::decimal(number as usize);
+        }
     }
 }
 

@@ -2,7 +2,7 @@
 ghost use mathlib.Core.Path.{_≡_};
 ghost use Prim.Native.Nat.{_≤_};
 ghost use lib.ListN.{length};
-ghost use Rattle.script.specs.Command.{bytesBy, drainedBy, lineRead, openBy, releaseBy, replyBy, startBy, ticksBy, told, verdictBy};
+ghost use Rattle.script.specs.Command.{aloneBy, bytesBy, lineRead, openBy, releaseBy, replyBy, startBy, ticksBy, told, verdictBy};
 use exchange::Primary;
 use link::Setup;
 use parse::behind;
@@ -202,12 +202,12 @@ fn verdict(text: &[u8]) -> Command
     Command::Verdict(byte(place))
 }
 
-// `D`, nothing behind it, not even a space.
-fn drained(line: &[u8]) -> Command
-    ensures { λ r. ⌜ r ≡ drainedBy (now (line .entry)) ⌝ }
+// `D` or `K`, nothing behind it, not even a space.
+fn alone(command: Command, line: &[u8]) -> Command
+    ensures { λ r. ⌜ r ≡ aloneBy command (now (line .entry)) ⌝ }
 {
     if line.len() == 1 {
-        return Command::Drained;
+        return command;
     }
     Command::Unreadable
 }
@@ -228,8 +228,9 @@ pub fn read_line(line: &[u8], bytes: &mut [u8; 512]) -> Command
         b'L' => release(text),
         b'B' => bytes_in(text, bytes),
         b'T' => ticks(text),
-        b'D' => drained(line),
+        b'D' => alone(Command::Drained, line),
         b'V' => verdict(text),
+        b'K' => alone(Command::Dropped, line),
         _ => Command::Unreadable,
     }
 }

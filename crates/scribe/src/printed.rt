@@ -4,44 +4,49 @@ ghost use Prim.Native.Nat.{_+_, _≤_, _<_};
 ghost use lib.ListN.{length};
 ghost use Rattle.wire.specs.Lent.{filled, filledWith, onto, splice};
 ghost use Rattle.script.specs.Hex.{glyphOf, hexOf, twoOf};
-ghost use Rattle.script.specs.Printed.{answerText, dataField, dataFits, numberField, numberText, textOf, unreadableText, verdictText};
+ghost use Rattle.script.specs.Printed.{answerText, dataField, dataFits, droppedText, numberField, numberText, onesOf, textOf, unreadableText, verdictText};
 use script::Printed;
 use wire::put;
 
-// How many bytes a number in decimal and the byte behind it are.
-fn number_size(n: u8) -> usize
+// How many bytes a number in decimal and the byte behind it are: of 32 bits it has at most ten digits.
+fn number_size(n: u32) -> usize
     ensures { λ r. ⌜ r ≡ length (numberText n) + 1 ⌝ }
+    ensures { λ r. ⌜ r ≤ 11 ⌝ }
 {
-    if n < 10 {
-        return 2;
+    let mut left = n;
+    let mut size: usize = 2;
+    while 10 <= left {
+        left = left / 10;
+        size += 1;
     }
-    if n < 100 {
-        return 3;
-    }
-    4
+    size
 }
 
-// Puts a number in decimal, without zeros before it, and a byte behind it, and gives back where they end.
-fn put_number(out: &mut [u8], at: usize, n: u8, mark: u8) -> usize
+// The last decimal digit of a number.
+fn ones(n: u32) -> u8
+    ensures { λ r. ⌜ r ≡ onesOf n ⌝ }
+{
+    48 + (n % 10) as u8
+}
+
+// Puts a number in decimal, without zeros before it, and a byte behind it, and gives back where they end: that byte, and before it one digit
+// after the other, the last one first.
+fn put_number(out: &mut [u8], at: usize, n: u32, mark: u8) -> usize
     requires { ⌜ at + length (numberField n mark) ≤ length (now out) ⌝ }
     ensures { λ _. ⌜ now (out .exit) ≡ splice (now (out .entry)) at (numberField n mark) ⌝ }
     ensures { λ r. ⌜ r ≡ at + length (numberField n mark) ⌝ }
 {
-    let ones = 48 + n % 10;
-    if n < 10 {
-        let one = [ones, mark];
-        put(out, at, &one);
-        return at + 2;
+    let end = at + number_size(n);
+    let mut i = end - 1;
+    let mut left = n;
+    out[i] = mark;
+    while 10 <= left {
+        i -= 1;
+        out[i] = ones(left);
+        left = left / 10;
     }
-    let tens = 48 + n / 10 % 10;
-    if n < 100 {
-        let two = [tens, ones, mark];
-        put(out, at, &two);
-        return at + 3;
-    }
-    let three = [48 + n / 100, tens, ones, mark];
-    put(out, at, &three);
-    at + 4
+    out[at] = ones(left);
+    end
 }
 
 // A hex digit, in upper case.
@@ -96,9 +101,9 @@ fn put_answer(number: u8, bytes: &[u8], note: u8, text: &mut [u8]) -> usize
     requires { ⌜ length (answerText number (now bytes) note) ≤ length (now text) ⌝ }
     ensures { λ r. ⌜ filled r (now (text .exit)) ≡ onto (answerText number (now (bytes .entry)) note) (now (text .entry)) ⌝ }
 {
-    let at_data = put_number(text, 0, number, b' ');
+    let at_data = put_number(text, 0, number as u32, b' ');
     let at_note = put_data(text, at_data, bytes);
-    put_number(text, at_note, note, b'\n')
+    put_number(text, at_note, note as u32, b'\n')
 }
 
 // Whether so many bytes in hex, or `-`, and the space behind them have room.
@@ -114,7 +119,7 @@ fn data_fits(count: usize, room: usize) -> bool
 fn print_answer(number: u8, bytes: &[u8], note: u8, text: &mut [u8]) -> usize
     ensures { λ r. ⌜ filled r (now (text .exit)) ≡ filledWith (answerText number (now (bytes .entry)) note) (now (text .entry)) ⌝ }
 {
-    let numbers = number_size(number) + number_size(note);
+    let numbers = number_size(number as u32) + number_size(note as u32);
     if text.len() < numbers {
         return 0;
     }
@@ -127,12 +132,22 @@ fn print_answer(number: u8, bytes: &[u8], note: u8, text: &mut [u8]) -> usize
 fn print_verdict(place: u8, verdict: u8, text: &mut [u8]) -> usize
     ensures { λ r. ⌜ filled r (now (text .exit)) ≡ filledWith (verdictText place verdict) (now (text .entry)) ⌝ }
 {
-    if text.len() < 2 + number_size(place) + number_size(verdict) {
+    if text.len() < 2 + number_size(place as u32) + number_size(verdict as u32) {
         return 0;
     }
     put(text, 0, b"V ");
-    let at_verdict = put_number(text, 2, place, b' ');
-    put_number(text, at_verdict, verdict, b'\n')
+    let at_verdict = put_number(text, 2, place as u32, b' ');
+    put_number(text, at_verdict, verdict as u32, b'\n')
+}
+
+fn print_dropped(count: u32, text: &mut [u8]) -> usize
+    ensures { λ r. ⌜ filled r (now (text .exit)) ≡ filledWith (droppedText count) (now (text .entry)) ⌝ }
+{
+    if text.len() < 2 + number_size(count) {
+        return 0;
+    }
+    put(text, 0, b"K ");
+    put_number(text, 2, count, b'\n')
 }
 
 fn print_unreadable(text: &mut [u8]) -> usize
@@ -153,6 +168,7 @@ pub fn print_line(line: Printed, bytes: &[u8], text: &mut [u8]) -> usize
     match line {
         Printed::Answer { number, note } => print_answer(number, bytes, note, text),
         Printed::Verdict { place, verdict } => print_verdict(place, verdict, text),
+        Printed::Dropped { count } => print_dropped(count, text),
         Printed::Unreadable => print_unreadable(text),
     }
 }

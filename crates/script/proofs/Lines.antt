@@ -17,11 +17,11 @@ use Rattle.text.specs.Hex.{isData}
 use Rattle.text.proofs.FieldRules.{letter-exactly}
 use Rattle.exchange.specs.declared.Primary.{Primary}
 use Rattle.link.specs.declared.Setup.{Setup}
-use Rattle.script.specs.Command.{Told, told, unread, startBy, openBy, replyBy, releaseBy, bytesBy, ticksBy, drainedBy, verdictBy, commandBy, lineRead, fromField, numberAt, lastNumber, setupIn, primaryIn}
+use Rattle.script.specs.Command.{Told, told, unread, startBy, openBy, replyBy, releaseBy, bytesBy, ticksBy, aloneBy, verdictBy, commandBy, lineRead, fromField, numberAt, lastNumber, setupIn, primaryIn}
 use Rattle.script.specs.ReadingRules.{UnreadLeaves}
-use Rattle.script.specs.Lines.{Order, starts, opens, replies, frees-own, frees-incoming, hears, waits, drains, shows, NumberIn, DataIn, roleLetter, bit, spaced, LineIs, start-line, open-line, reply-line, own-line, incoming-line, bytes-line, ticks-line, drained-line, verdict-line, commandOf, bytesOf, OneOf, LinesRead}
+use Rattle.script.specs.Lines.{Order, starts, opens, replies, frees-own, frees-incoming, hears, waits, drains, shows, counts, NumberIn, DataIn, roleLetter, bit, spaced, LineIs, start-line, open-line, reply-line, own-line, incoming-line, bytes-line, ticks-line, drained-line, verdict-line, dropped-line, commandOf, bytesOf, OneOf, LinesRead}
 use Rattle.script.specs.declared.Command.{Command}
-use Rattle.script.specs.declared.Command.the-variants.{Unreadable, Start, Open, Reply, ReleaseOwn, ReleaseIncoming, Bytes, Ticks, Drained, Verdict}
+use Rattle.script.specs.declared.Command.the-variants.{Unreadable, Start, Open, Reply, ReleaseOwn, ReleaseIncoming, Bytes, Ticks, Drained, Verdict, Dropped}
 use Rattle.script.proofs.Fields.{text-is, letter-free, number-free, parted, letter-is, letter-some, one-byte, number-said, number-some, number-read, data-is, data-said, data-some, data-read, field-some}
 
 -- ---- a line that is one of 01's is read
@@ -147,9 +147,10 @@ role-free : (host : Bool) → (roleLetter host ≡ 0x20 → ⊥) × (roleLetter 
 role-free true = (λ e. omega arith, λ e. omega arith)
 role-free false = (λ e. omega arith, λ e. omega arith)
 
-drained-read : (bytes : List ℕ) → lineRead (0x44 ∷ []) bytes ≡ told Drained bytes
-unfolding lineRead commandBy drainedBy fieldOf letterOf indexOf indexAfter
-drained-read bytes = refl
+-- a letter alone
+alone-read : (bytes : List ℕ) → (lineRead (0x44 ∷ []) bytes ≡ told Drained bytes) × (lineRead (0x4B ∷ []) bytes ≡ told Dropped bytes)
+unfolding lineRead commandBy aloneBy fieldOf letterOf indexOf indexAfter
+alone-read bytes = (refl, refl)
 
 pub said : (line bytes : List ℕ) (o : Order) → LineIs line o → length line ≤ 1024 → lineRead line bytes ≡ reads bytes o
 unfolding commandBy onFront bytesBy ticksBy verdictBy
@@ -168,9 +169,10 @@ said _ bytes _ (incoming-line p place a) short =
 said _ bytes _ (bytes-line field bs e) short = letter-read 0x42 _ bytes (λ e. omega arith) (λ e. omega arith) short ∙ rw (data-is e, data-said e)
 said _ bytes _ (ticks-line n count a) short =
     letter-read 0x54 _ bytes (λ e. omega arith) (λ e. omega arith) short ∙ rw (number-said (omega arith) a, le-ltb 100000 n (a .within))
-said _ bytes _ drained-line short = drained-read bytes
+said _ bytes _ drained-line short = alone-read bytes .0
 said _ bytes _ (verdict-line p place a) short =
     letter-read 0x56 _ bytes (λ e. omega arith) (λ e. omega arith) short ∙ rw (number-said (omega arith) a, le-ltb 255 p (a .within))
+said _ bytes _ dropped-line short = alone-read bytes .1
 
 -- ---- a line that is read is one of 01's
 
@@ -298,11 +300,11 @@ verdict-only line bytes first =
     chosen (KnownAs line bytes) (ltb 255 (numberOf (behindOf line))) _ _ (λ z. inl refl)
     (λ e. let n = number-read 255 (behindOf line) (omega arith) e in inr (one-of line _ (shows _) (line-is 0x56 line _ first refl (number-some n)) (verdict-line _ _ n)))
 
-drained-only : (line bytes : List ℕ) → fieldOf line ≡ 0x44 ∷ [] → KnownAs line bytes (drainedBy line)
-unfolding drainedBy
-drained-only line bytes first =
+alone-only : (letter : ℕ) (o : Order) → LineIs (letter ∷ []) o → (line bytes : List ℕ) → fieldOf line ≡ letter ∷ [] → KnownAs line bytes (aloneBy (commandOf o) line)
+unfolding aloneBy
+alone-only letter o is line bytes first =
     chosen (KnownAs line bytes) (eqb (length line) 1) _ _
-    (λ e. inr (one-of line _ drains (one-byte line 0x44 first (eqb-true (length line) 1 e)) drained-line)) (λ z. inl refl)
+    (λ e. inr (one-of line _ o (one-byte line letter first (eqb-true (length line) 1 e)) is)) (λ z. inl refl)
 
 by-letter : (line bytes : List ℕ) → Known line bytes (commandBy (letterOf (fieldOf line)) line (behindOf line) bytes)
 unfolding commandBy
@@ -315,8 +317,9 @@ by-letter line bytes =
     (λ z. chosen (Known line bytes) (eqb (letterOf (fieldOf line)) 0x4C) _ _ (λ e. release-only line bytes (is 0x4C (λ z. omega arith) e))
     (λ z. chosen (Known line bytes) (eqb (letterOf (fieldOf line)) 0x42) _ _ (λ e. bytes-only line bytes (is 0x42 (λ z. omega arith) e))
     (λ z. chosen (Known line bytes) (eqb (letterOf (fieldOf line)) 0x54) _ _ (λ e. ticks-only line bytes (is 0x54 (λ z. omega arith) e))
-    (λ z. chosen (Known line bytes) (eqb (letterOf (fieldOf line)) 0x44) _ _ (λ e. drained-only line bytes (is 0x44 (λ z. omega arith) e))
-    (λ z. chosen (Known line bytes) (eqb (letterOf (fieldOf line)) 0x56) _ _ (λ e. verdict-only line bytes (is 0x56 (λ z. omega arith) e)) (λ z. inl refl)))))))))
+    (λ z. chosen (Known line bytes) (eqb (letterOf (fieldOf line)) 0x44) _ _ (λ e. alone-only 0x44 drains drained-line line bytes (is 0x44 (λ z. omega arith) e))
+    (λ z. chosen (Known line bytes) (eqb (letterOf (fieldOf line)) 0x56) _ _ (λ e. verdict-only line bytes (is 0x56 (λ z. omega arith) e))
+    (λ z. chosen (Known line bytes) (eqb (letterOf (fieldOf line)) 0x4B) _ _ (λ e. alone-only 0x4B counts dropped-line line bytes (is 0x4B (λ z. omega arith) e)) (λ z. inl refl))))))))))
 
 pub known : (line bytes : List ℕ) → Known line bytes (lineRead line bytes)
 unfolding lineRead
@@ -341,6 +344,7 @@ unreadable (Bytes n) = false
 unreadable (Ticks n) = false
 unreadable Drained = false
 unreadable (Verdict p) = false
+unreadable Dropped = false
 
 readable : (o : Order) → unreadable (commandOf o) ≡ false
 readable (starts s) = refl
@@ -352,6 +356,7 @@ readable (hears bs) = refl
 readable (waits n) = refl
 readable drains = refl
 readable (shows p) = refl
+readable counts = refl
 
 pub unread-leaves : UnreadLeaves
 unread-leaves line bytes e =

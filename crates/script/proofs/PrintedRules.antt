@@ -1,11 +1,11 @@
 -- What is printed in hex reads back, and what is printed is one line. Assumes nothing.
 use Prim.Native.Nat.{ℕ, zero, suc, _+_, _-_, _*_, _/_, _%_, _≤_, _<_}
-use mathlib.Core.Path.{_≡_, refl, subst}
+use mathlib.Core.Path.{_≡_, refl, sym, ap, subst, _∙_}
 use mathlib.Core.List.{List, [], _∷_, _++_, append-assoc}
 use mathlib.Core.Logic.{_⊎_, inl, inr}
 use native.Mathlib.Omega.{arith}
 use lib.Dec.{ltb}
-use lib.ListN.{length, getD}
+use lib.ListN.{length, getD, length-append}
 use borrow.Author.Tests.{ltb-true, ltb-false}
 use Rattle.wire.specs.Bytes.{Bytes}
 use Rattle.wire.proofs.Choice.{chosen}
@@ -13,10 +13,11 @@ use Rattle.text.specs.Theorems.{HexSays, TextSays}
 use Rattle.text.specs.Theorems as read
 use Rattle.text.proofs.HexRules.{bytes-said}
 use Rattle.script.specs.Hex.{glyphOf, hexOf}
-use Rattle.script.specs.Printed.{dataField, dataText, numberField, numberText}
+use Rattle.script.specs.Printed.{onesOf, withOnes, dataField, dataText, numberField, numberText}
 use Rattle.script.specs.PrintedRules.{LinesExactly, NumberPlain, DataReads, HexReads, UpperDigit, decimal, letter, UpperHex, no-more, one-more, HexUpper, DataPrinted, dash, digits, DataUpper, LineEnds, OneLine}
 use Rattle.script.specs.Lines.{DataIn, no-data, some-data}
-use Rattle.script.specs.declared.Printed.the-variants.{Answer, Verdict, Unreadable}
+use Rattle.script.specs.declared.Printed.the-variants.{Answer, Verdict, Dropped, Unreadable}
+use Rattle.script.proofs.Digits.{by-digits, number-one}
 use Rattle.script.proofs.Fields.{data-is, data-said}
 
 -- the bytes behind the first
@@ -94,10 +95,7 @@ plain-hex [] = none
 plain-hex (b ∷ bs) = more (plain-glyph (b / 16)) (more (plain-glyph (b % 16)) (plain-hex bs))
 
 plain-number : (n : ℕ) → Plain (numberText n)
-unfolding numberText
-plain-number n =
-    chosen Plain (ltb n 10) _ _ (λ e. more (omega arith) none)
-    (λ e. chosen Plain (ltb n 100) _ _ (λ f. more (omega arith) (more (omega arith) none)) (λ f. more (omega arith) (more (omega arith) (more (omega arith) none))))
+plain-number = by-digits (λ n text. Plain text) (λ n h. more (omega arith) none) (λ n text h p. plain-append p (more (omega arith) none))
 
 plain-data : (bs : List ℕ) → Plain (dataText bs)
 plain-data [] = more {b = 0x2D} (omega arith) none
@@ -118,15 +116,30 @@ line-ends (Answer number note) bytes =
 line-ends (Verdict place verdict) bytes =
     ended _ (0x56 ∷ 0x20 ∷ (numberField place 0x20 ++ numberText verdict)) (simp append-assoc)
     (more (omega arith) (more (omega arith) (plain-append (spaced (plain-number place)) (plain-number verdict))))
+line-ends (Dropped count) bytes = ended _ (0x4B ∷ 0x20 ∷ numberText count) refl (more (omega arith) (more (omega arith) (plain-number count)))
 line-ends Unreadable bytes = ended _ (0x3F ∷ []) refl (more (omega arith) none)
 
 pub lines-exactly : LinesExactly
-lines-exactly bytes = record { answer = λ n m. simp append-assoc; verdict = λ p v. simp append-assoc; unreadable = refl }
+lines-exactly bytes = record { answer = λ n m. simp append-assoc; verdict = λ p v. simp append-assoc; dropped = λ n. refl; unreadable = refl }
+
+-- the first digit is the first of those before the last one
+first-kept : (text : List ℕ) (n : ℕ) → 1 ≤ length text → getD (withOnes text n) 0 0 ≡ getD text 0 0
+first-kept [] n some = absurd (omega arith)
+first-kept (b ∷ bs) n some = refl
+
+-- it is no zero, unless the number is 0
+record First (n : ℕ) (text : List ℕ) : Type 0 where
+  some : 1 ≤ length text
+  high : 1 ≤ n → getD text 0 0 ≡ 0x30 → ⊥
+
+first-digit : (n : ℕ) → First n (numberText n)
+first-digit =
+    by-digits First (λ n h. record { some = omega arith; high = λ l e. omega arith })
+    (λ n text h f. record {
+      some = omega (arith, length-append text (onesOf n ∷ []), f .some);
+      high = λ l e. f .high (omega arith) (sym (first-kept text n (f .some)) ∙ e);
+    })
 
 pub number-plain : NumberPlain
-unfolding numberText
-number-plain n h =
-    chosen (λ (t : List ℕ). (length t ≡ 1) ⊎ (getD t 0 0 ≡ 0x30 → ⊥)) (ltb n 10) _ _ (λ e. inl refl)
-    (λ e. chosen (λ (t : List ℕ). (length t ≡ 1) ⊎ (getD t 0 0 ≡ 0x30 → ⊥)) (ltb n 100) _ _
-    (λ f. let low = ltb-true n 100 f in let high = ltb-false n 10 e in inr (λ z. omega arith))
-    (λ f. let high = ltb-false n 100 f in inr (λ z. omega arith)))
+number-plain zero = inl (ap length (number-one 0 (omega arith)))
+number-plain (suc n) = inr (first-digit (suc n) .high (omega arith))

@@ -1,5 +1,5 @@
 -- Bytes put one behind another, the sizes of a line's fields, and bytes in hex. Assumes nothing.
-use Prim.Native.Nat.{ℕ, _+_, _-_, _*_, _/_, _≤_, _<_, max}
+use Prim.Native.Nat.{ℕ, suc, _+_, _-_, _*_, _/_, _≤_, _<_, max}
 use mathlib.Core.Path.{_≡_, refl, sym, ap, _∙_}
 use mathlib.Core.Bool.{Bool, false}
 use mathlib.Core.List.{List, [], _∷_, _++_, append-assoc}
@@ -7,14 +7,15 @@ use native.Mathlib.Nat.{add-zero}
 use native.Mathlib.Numerals.{add-one}
 use native.Mathlib.Omega.{arith}
 use lib.Dec.{leb, ltb}
-use lib.ListN.{length, take, getD, length-append, take-append-drop}
-use lib.Seq.{length-take-le, take-suc}
+use lib.ListN.{length, take, drop, getD, set, length-append, take-append-drop}
+use lib.Seq.{length-take-le, take-suc, take-set-le, drop-set-add, drop-cons}
 use borrow.Author.Tests.{le-leb, lt-leb, ltb-true, ltb-false, leb-true, leb-false}
-use Rattle.wire.specs.Lent.{splice, onFront, filled, onto}
+use Rattle.wire.specs.Lent.{splice, onFront, Filled, filled, onto}
 use Rattle.wire.proofs.Choice.{either, chosen}
 use Rattle.wire.proofs.Lent.{front-more, splice-length}
 use Rattle.script.specs.Hex.{hexOf, twoOf}
-use Rattle.script.specs.Printed.{numberText, numberField, dataField, answerText, verdictText, dataFits}
+use Rattle.script.specs.Printed.{onesOf, numberText, numberField, dataField, answerText, verdictText, droppedText, dataFits}
+use Rattle.script.proofs.Digits.{number-one, number-more}
 
 pub put-nothing : (out : List ℕ) (i : ℕ) → splice out i [] ≡ out
 unfolding splice
@@ -41,24 +42,46 @@ put-behind out p q i n h e =
 pub three-length : (p q r : List ℕ) → length (p ++ (q ++ r)) ≡ length p + length q + length r
 three-length p q r = omega (arith, length-append p (q ++ r), length-append q r)
 
--- three fields, each put where the one before it ends
+-- two fields, and three, each put where the one before it ends
+pub put-both : (out p q a b : List ℕ) (i j : ℕ) → a ≡ splice out 0 p → i ≡ 0 + length p → b ≡ splice a i q → j ≡ i + length q → filled j b ≡ onto (p ++ q) out
+put-both out p q a b i j first at-q second end =
+    let size : j ≡ length (p ++ q) = omega (arith, length-append p q) in
+    let all : b ≡ onFront (p ++ q) out = second ∙ rw (first ∙ put-first out p) (front-more out p q i (omega arith)) in
+    λ x. filled (size x) (all x)
+
 pub put-three : (out p q r a b c : List ℕ) (i j k : ℕ)
     → a ≡ splice out 0 p → i ≡ 0 + length p → b ≡ splice a i q → j ≡ i + length q → c ≡ splice b j r → k ≡ j + length r → filled k c ≡ onto (p ++ (q ++ r)) out
 put-three out p q r a b c i j k first at-q second at-r third end =
     let size : k ≡ length (p ++ (q ++ r)) = omega (arith, three-length p q r) in
-    let one : a ≡ onFront p out = first ∙ put-first out p in
-    let two : b ≡ onFront (p ++ q) out = second ∙ rw one (front-more out p q i (omega arith)) in
-    let all : c ≡ onFront (p ++ (q ++ r)) out = third ∙ rw (two, ← append-assoc p q r) (front-more out (p ++ q) r j (omega (arith, length-append p q))) in
+    let two = put-both out p q a b i j first at-q second at-r in
+    let all : c ≡ onFront (p ++ (q ++ r)) out =
+    third ∙ rw (ap (λ (f : Filled). f .memory) two, ← append-assoc p q r) (front-more out (p ++ q) r j (omega (arith, length-append p q))) in
     λ x. filled (size x) (all x)
-
--- a number is at most three digits
-pub number-short : (n : ℕ) → length (numberText n) ≤ 3
-unfolding numberText
-number-short n =
-    chosen (λ (l : List ℕ). length l ≤ 3) (ltb n 10) _ _ (λ e. omega arith) (λ e. chosen (λ (l : List ℕ). length l ≤ 3) (ltb n 100) _ _ (λ f. omega arith) (λ f. omega arith))
 
 pub number-length : (n mark : ℕ) → length (numberField n mark) ≡ length (numberText n) + 1
 number-length n mark = length-append (numberText n) (mark ∷ [])
+
+-- bytes put with one byte behind them, that one first
+put-before : (out p : List ℕ) (i k b : ℕ) → k ≡ i + length p → k < length out → splice (set out k b) i p ≡ splice out i (p ++ (b ∷ []))
+unfolding splice
+put-before out p i k b e h =
+    let next : i + length (p ++ (b ∷ [])) ≡ suc k = omega (arith, length-append p (b ∷ [])) in
+    let before : take i (set out k b) ≡ take i out = take-set-le i out k b (omega arith) in
+    let behind : drop k (set out k b) ≡ b ∷ drop (suc k) out =
+    ap (λ (j : ℕ). drop k (set out j b)) (sym (add-zero k)) ∙ drop-set-add k out 0 b ∙ ap (λ (l : List ℕ). set l 0 b) (drop-cons out k 0 h) in
+    rw (next, ← e, before, behind, append-assoc)
+
+-- A number is put from its last digit on, and the byte behind it before that: what is still to be put gives the same.
+pub put-mark : (out : List ℕ) (i k n mark : ℕ) → k ≡ i + length (numberText n) → k < length out → splice (set out k mark) i (numberText n) ≡ splice out i (numberField n mark)
+put-mark out i k n mark = put-before out (numberText n) i k mark
+
+pub put-last : (out : List ℕ) (i k n : ℕ) → 10 ≤ n → k ≡ i + length (numberText (n / 10)) → k < length out
+    → splice (set out k (onesOf n)) i (numberText (n / 10)) ≡ splice out i (numberText n)
+put-last out i k n h e fits = put-before out (numberText (n / 10)) i k (onesOf n) e fits ∙ ap (splice out i) (sym (number-more n h))
+
+pub put-first-digit : (out : List ℕ) (i n : ℕ) → n < 10 → i < length out → set out i (onesOf n) ≡ splice out i (numberText n)
+put-first-digit out i n h fits =
+    sym (put-nothing (set out i (onesOf n)) i) ∙ put-before out [] i i (onesOf n) (sym (add-zero i)) fits ∙ ap (splice out i) (sym (number-one n h))
 
 pub hex-length : (bs : List ℕ) → length (hexOf bs) ≡ 2 * length bs
 unfolding hexOf
@@ -125,6 +148,9 @@ answer-length number bs note =
 pub verdict-length : (place verdict : ℕ) → length (verdictText place verdict) ≡ 2 + (length (numberText place) + 1) + (length (numberText verdict) + 1)
 verdict-length place verdict =
     omega (arith, length-append (numberField place 0x20) (numberField verdict 0x0A), number-length place 0x20, number-length verdict 0x0A)
+
+pub dropped-length : (count : ℕ) → length (droppedText count) ≡ 2 + (length (numberText count) + 1)
+dropped-length count = omega (arith, number-length count 0x0A)
 
 -- the test on what the two numbers leave is that of the whole answer
 pub answer-fits : (number : ℕ) (bs : List ℕ) (note a b room : ℕ) → a ≡ length (numberText number) + 1 → b ≡ length (numberText note) + 1 → a + b ≤ room

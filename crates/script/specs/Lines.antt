@@ -14,7 +14,7 @@ use Rattle.text.specs.Theorems.{Says, TextSays}
 use Rattle.script.specs.Command.{told, unread, lineRead}
 use Rattle.script.specs.Printed.{dataText}
 use Rattle.script.specs.declared.Command.{Command}
-use Rattle.script.specs.declared.Command.the-variants.{Start, Open, Reply, ReleaseOwn, ReleaseIncoming, Bytes, Ticks, Drained, Verdict}
+use Rattle.script.specs.declared.Command.the-variants.{Start, Open, Reply, ReleaseOwn, ReleaseIncoming, Bytes, Ticks, Drained, Verdict, Dropped}
 
 -- ---- what a line asks for, with the bytes that it says
 
@@ -27,6 +27,7 @@ pub data Order : Type 0 where
   waits : (count : ℕ) → Order
   drains : Order
   shows : (place : ℕ) → Order
+  counts : Order
 
 -- ---- fields
 
@@ -89,6 +90,8 @@ pub data LineIs : List ℕ → Order → Type 0 where
   drained-line : LineIs (lineOf 0x44 []) drains
   -- "`V` place"
   verdict-line : (p : ℕ) (place : List ℕ) → NumberIn 255 place p → LineIs (lineOf 0x56 (place ∷ [])) (shows p)
+  -- `K` alone (02, request 2)
+  dropped-line : LineIs (lineOf 0x4B []) counts
 
 -- ---- what is read
 
@@ -103,6 +106,7 @@ commandOf (hears bs) = Bytes (length bs)
 commandOf (waits n) = Ticks n
 commandOf drains = Drained
 commandOf (shows p) = Verdict p
+commandOf counts = Dropped
 
 abbrev pub bytesOf : Order → List ℕ
 bytesOf (starts s) = []
@@ -114,6 +118,7 @@ bytesOf (hears bs) = bs
 bytesOf (waits n) = []
 bytesOf drains = []
 bytesOf (shows p) = []
+bytesOf counts = []
 
 -- a line that is one of 01's
 pub record OneOf (line : List ℕ) : Type 0 where
@@ -157,6 +162,7 @@ Within (hears bs) = AreBytes bs
 Within (waits n) = n ≤ 100000
 Within drains = Unit {0}
 Within (shows p) = p ≤ 255
+Within counts = Unit {0}
 
 -- a number as it may be written: six digits, for zeros before it are read (docs/READINGS.md, 27)
 abbrev pub sixDigits : ℕ → List ℕ
@@ -179,6 +185,7 @@ written (hears bs) = lineOf 0x42 (dataText bs ∷ [])
 written (waits n) = lineOf 0x54 (sixDigits n ∷ [])
 written drains = lineOf 0x44 []
 written (shows p) = lineOf 0x56 (sixDigits p ∷ [])
+written counts = lineOf 0x4B []
 
 pub record OrdersWritten : Type 0 where
   -- written and read back, all its values and bytes

@@ -1,22 +1,33 @@
 -- What bench prints (01: "prints one line each: refusal number or 0, bytes out in hex or `-`, note"; "`V` place prints V, place,
--- verdict"; "prints `?`").
-use Prim.Native.Nat.{ℕ, _+_, _-_, _/_, _%_}
-use mathlib.Core.Bool.{Bool, false, cond}
+-- verdict"; "prints `?`"). `K` (02, request 2) prints `K n`, how many reports were dropped.
+use Prim.Native.Nat.{ℕ, zero, suc, _+_, _-_, _/_, _%_}
+use mathlib.Core.Bool.{Bool, true, false, cond}
 use mathlib.Core.List.{List, [], _∷_, _++_}
 use lib.Dec.{leb, ltb}
 use Rattle.script.specs.Hex.{hexOf}
 use Rattle.script.specs.declared.Printed.{Printed}
-use Rattle.script.specs.declared.Printed.the-variants.{Answer, Verdict, Unreadable}
+use Rattle.script.specs.declared.Printed.the-variants.{Answer, Verdict, Dropped, Unreadable}
 
 -- the last decimal digit of a number
 abbrev pub onesOf : ℕ → ℕ
 onesOf n = 48 + n % 10
 
--- a number up to 255 in decimal, without zeros before it
+-- the digits before the last one, and the last one
+abbrev pub withOnes : List ℕ → ℕ → List ℕ
+withOnes text n = text ++ (onesOf n ∷ [])
+
+abbrev pub isDigit : ℕ → Bool
+isDigit n = ltb n 10
+
+-- a number's digits, without zeros before them: with no more before the last one than `most`, and by whether it is one digit
+unfoldable pub digitsOf : ℕ → Bool → ℕ → List ℕ
+digitsOf zero t n = withOnes [] n
+digitsOf (suc most) true n = withOnes [] n
+digitsOf (suc most) false n = withOnes (digitsOf most (isDigit (n / 10)) (n / 10)) n
+
+-- any number in decimal: before its last digit it has no more of them than it says
 unfoldable pub numberText : ℕ → List ℕ
-numberText n =
-    cond (ltb n 10) (onesOf n ∷ [])
-    (cond (ltb n 100) (onesOf (n / 10) ∷ onesOf n ∷ []) ((48 + n / 100) ∷ onesOf (n / 10) ∷ onesOf n ∷ []))
+numberText n = digitsOf n (isDigit n) n
 
 -- a number, and a byte behind it
 abbrev pub numberField : ℕ → ℕ → List ℕ
@@ -37,6 +48,9 @@ answerText number bytes note = numberField number 0x20 ++ (dataField bytes ++ nu
 abbrev pub verdictText : ℕ → ℕ → List ℕ
 verdictText place verdict = (0x56 ∷ 0x20 ∷ []) ++ (numberField place 0x20 ++ numberField verdict 0x0A)
 
+abbrev pub droppedText : ℕ → List ℕ
+droppedText count = (0x4B ∷ 0x20 ∷ []) ++ numberField count 0x0A
+
 abbrev pub unreadableText : List ℕ
 unreadableText = 0x3F ∷ 0x0A ∷ []
 
@@ -44,6 +58,7 @@ unreadableText = 0x3F ∷ 0x0A ∷ []
 abbrev pub textOf : Printed → List ℕ → List ℕ
 textOf (Answer number note) bytes = answerText number bytes note
 textOf (Verdict place verdict) bytes = verdictText place verdict
+textOf (Dropped count) bytes = droppedText count
 textOf Unreadable bytes = unreadableText
 
 -- whether so many bytes in hex, or `-`, and a space fit

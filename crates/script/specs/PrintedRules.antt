@@ -10,7 +10,7 @@ use Rattle.text.specs.Hex.{dataOf, isData}
 use Rattle.script.specs.Hex.{hexOf}
 use Rattle.script.specs.Printed.{numberText, dataText, textOf}
 use Rattle.script.specs.declared.Printed.{Printed}
-use Rattle.script.specs.declared.Printed.the-variants.{Answer, Verdict, Unreadable}
+use Rattle.script.specs.declared.Printed.the-variants.{Answer, Verdict, Dropped, Unreadable}
 
 -- what is printed in hex reads back as the same bytes
 abbrev pub HexReads : Type 0
@@ -53,10 +53,11 @@ pub record OneLine (text : List ℕ) : Type 0 where
 abbrev pub LineEnds : Type 0
 LineEnds = (line : Printed) (bytes : List ℕ) → OneLine (textOf line bytes)
 
--- each line by its fields: "refusal number or 0, bytes out in hex or `-`, note"; "V, place, verdict"; "`?`"
+-- each line by its fields: "refusal number or 0, bytes out in hex or `-`, note"; "V, place, verdict"; `K n` (02, request 2); "`?`"
 pub record Fielded (bytes : List ℕ) : Type 0 where
   pub answer : (number note : ℕ) → textOf (Answer number note) bytes ≡ numberText number ++ (0x20 ∷ (dataText bytes ++ (0x20 ∷ (numberText note ++ (0x0A ∷ [])))))
   pub verdict : (place given : ℕ) → textOf (Verdict place given) bytes ≡ 0x56 ∷ 0x20 ∷ (numberText place ++ (0x20 ∷ (numberText given ++ (0x0A ∷ []))))
+  pub dropped : (count : ℕ) → textOf (Dropped count) bytes ≡ 0x4B ∷ 0x20 ∷ (numberText count ++ (0x0A ∷ []))
   pub unreadable : textOf Unreadable bytes ≡ 0x3F ∷ 0x0A ∷ []
 
 abbrev pub LinesExactly : Type 0
@@ -64,4 +65,4 @@ LinesExactly = (bytes : List ℕ) → Fielded bytes
 
 -- a number is printed without zeros before it
 abbrev pub NumberPlain : Type 0
-NumberPlain = (n : ℕ) → n < 256 → (length (numberText n) ≡ 1) ⊎ (getD (numberText n) 0 0 ≡ 0x30 → ⊥)
+NumberPlain = (n : ℕ) → (length (numberText n) ≡ 1) ⊎ (getD (numberText n) 0 0 ≡ 0x30 → ⊥)

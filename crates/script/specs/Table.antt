@@ -7,7 +7,9 @@ use mathlib.Core.List.{List, [], _∷_}
 use lib.ListN.{replicate}
 use Rattle.script.specs.Command.{told, unread, lineRead}
 use Rattle.script.specs.Hex.{hexOf}
-use Rattle.script.specs.declared.Command.the-variants.{Start, Open, Reply, ReleaseOwn, ReleaseIncoming, Bytes, Ticks, Drained, Verdict}
+use Rattle.script.specs.Printed.{textOf}
+use Rattle.script.specs.declared.Command.the-variants.{Start, Open, Reply, ReleaseOwn, ReleaseIncoming, Bytes, Ticks, Drained, Verdict, Dropped}
+use Rattle.script.specs.declared.Printed.the-variants as printed
 
 -- the memory that is lent for the bytes of a line
 abbrev pub lent : List ℕ
@@ -37,6 +39,8 @@ pub record CommandTable : Type 0 where
   pub drains : lineRead (0x44 ∷ []) lent ≡ told (Drained) lent
   -- `V 255`
   pub shows : lineRead (0x56 ∷ 0x20 ∷ 0x32 ∷ 0x35 ∷ 0x35 ∷ []) lent ≡ told (Verdict 255) lent
+  -- `K` (02, request 2)
+  pub counts : lineRead (0x4B ∷ []) lent ≡ told (Dropped) lent
 
 -- "W above 1; stream, function or place above 255; any other number but a count above 65,535", a count above 100,000, another letter,
 -- and more than a command has; "over 1,024 bytes"
@@ -71,6 +75,9 @@ pub record LimitTable : Type 0 where
   pub neither-own-nor-incoming : lineRead (0x4C ∷ 0x20 ∷ 0x58 ∷ 0x20 ∷ 0x31 ∷ []) lent ≡ unread lent
   -- `D 1`
   pub more-than-drained : lineRead (0x44 ∷ 0x20 ∷ 0x31 ∷ []) lent ≡ unread lent
+  -- `K 1`, and `K` with a space behind it (02, request 2)
+  pub more-than-dropped : lineRead (0x4B ∷ 0x20 ∷ 0x31 ∷ []) lent ≡ unread lent
+  pub space-behind-dropped : lineRead (0x4B ∷ 0x20 ∷ []) lent ≡ unread lent
   -- `T`, a space and 1,022 zeros; one zero more, which is a number as well
   pub of-1024-bytes : lineRead (0x54 ∷ 0x20 ∷ replicate 1022 0x30) lent ≡ told (Ticks 0) lent
   pub of-1025-bytes : lineRead (0x54 ∷ 0x20 ∷ replicate 1023 0x30) lent ≡ unread lent
@@ -78,3 +85,8 @@ pub record LimitTable : Type 0 where
 -- hex in upper case: the sixteen digits
 abbrev pub DigitTable : Type 0
 DigitTable = hexOf (0x01 ∷ 0x23 ∷ 0x45 ∷ 0x67 ∷ 0x89 ∷ 0xAB ∷ 0xCD ∷ 0xEF ∷ []) ≡ 0x30 ∷ 0x31 ∷ 0x32 ∷ 0x33 ∷ 0x34 ∷ 0x35 ∷ 0x36 ∷ 0x37 ∷ 0x38 ∷ 0x39 ∷ 0x41 ∷ 0x42 ∷ 0x43 ∷ 0x44 ∷ 0x45 ∷ 0x46 ∷ []
+
+-- `K n`, decimal, at both ends of its range (02, request 2): `K 0`, `K 4294967295`
+pub record CountTable : Type 0 where
+  pub least : textOf (printed.Dropped 0) [] ≡ 0x4B ∷ 0x20 ∷ 0x30 ∷ 0x0A ∷ []
+  pub most : textOf (printed.Dropped 4294967295) [] ≡ 0x4B ∷ 0x20 ∷ 0x34 ∷ 0x32 ∷ 0x39 ∷ 0x34 ∷ 0x39 ∷ 0x36 ∷ 0x37 ∷ 0x32 ∷ 0x39 ∷ 0x35 ∷ 0x0A ∷ []

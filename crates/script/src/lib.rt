@@ -33,6 +33,8 @@ pub enum Command {
     Drained,
     // "`V` place".
     Verdict(u8),
+    // `K` (02, request 2).
+    Dropped,
 }
 
 // What is printed for a line.
@@ -41,6 +43,8 @@ pub enum Printed {
     Answer { number: u8, note: u8 },
     // "V, place, verdict".
     Verdict { place: u8, verdict: u8 },
+    // `K n`: how many reports were dropped (02, request 2).
+    Dropped { count: u32 },
     // `?`.
     Unreadable,
 }

@@ -1,10 +1,10 @@
 -- The number that is given is the first after the last that is not passed over, and the system bytes made of it are distinct.
 -- Assumes nothing.
 use Prim.Native.Nat.{ℕ, zero, suc, _+_, _*_, _%_, _≤_, _<_}
-use mathlib.Core.Path.{_≡_, refl, sym, ap, _∙_}
-use mathlib.Core.Bool.{Bool, true, false, cond, false≢true}
+use mathlib.Core.Path.{_≡_, refl, sym, ap, subst, _∙_}
+use mathlib.Core.Bool.{Bool, true, false, cond, _||_, or-true, false≢true}
 use mathlib.Core.List.{List, [], _∷_, map}
-use mathlib.Core.Logic.{_↔_, Iff·trans, _⊎_, inl, inr, ⊎-elim}
+use mathlib.Core.Logic.{_↔_, Iff·trans, _⊎_, inl, inr, ⊎-elim, _≢_}
 use native.Mathlib.Omega.{arith}
 use native.Mathlib.Nat.{not-suc-le-zero}
 use lib.Dec.{eqb}
@@ -16,7 +16,7 @@ use Rattle.place.specs.Own.{freshOwn, ownIsFree, primaryOf}
 use Rattle.place.specs.declared.Own.{Own}
 use Rattle.table.specs.Number.{numberOf, heldNumber, following, among, firstAfter, passedOver, nextNumber}
 use Rattle.table.specs.Theorems.{FollowingNumber, numberAfter, InUse, PassedOver, FirstLeft, NumberGiven, SystemDistinct, NumberTable}
-use Rattle.table.proofs.Numbers.{following-fits, wait, wait-le}
+use Rattle.table.proofs.Numbers.{following-fits, wait, wait-le, never-once-more}
 
 pub following-number : FollowingNumber
 unfolding following
@@ -138,6 +138,40 @@ number-given os last latest four h = record {
 
     range : (1 ≤ nextNumber os last latest) × (nextNumber os last latest ≤ 65535)
     range = rw (r .there) at (after-fits (r .count) last h (r .some))
+
+-- it is never the last given, whatever is in the places and whatever number that is: a start may be told of one that is none
+pub next-other : (os : List Own) (last latest : ℕ) → nextNumber os last latest ≢ last
+unfolding nextNumber
+next-other os last latest = never-once-more (passedOver os latest) last
+
+-- ---- the latest, where a place in use has its number
+
+-- such a number is among those of the places
+held-there : (m : ℕ) (os : List Own) → InUse os m → among m (map heldNumber os) ≡ true
+unfolding among heldNumber numberOf
+held-there m [] w = absurd (not-suc-le-zero (w .within))
+held-there m (o ∷ os) w =
+    ⊎-elim (λ (h : Has m o). rw (eq-eqb (heldNumber o) m (ap (λ (t : Bool). cond t 0 (numberOf o)) (h .0) ∙ h .1)))
+    (λ (r : InUse os m). rw (held-there m os r) (or-true (eqb (heldNumber o) m))) (in-table m o os .1 w)
+
+-- so it bars no other
+barred : (passed : List ℕ) (a : ℕ) → among a passed ≡ true → (m : ℕ) → among m (a ∷ passed) ≡ among m passed
+unfolding among
+barred passed a e m =
+    either (eqb a m) (λ t. t || among m passed ≡ among m passed) (λ q. sym (subst (λ n. among n passed ≡ true) (eqb-true a m q) e)) (λ q. refl)
+
+-- a search goes by what is barred
+first-alike : (k : ℕ) (ps qs : List ℕ) → ((m : ℕ) → among m ps ≡ among m qs) → (n : ℕ) → firstAfter k ps n ≡ firstAfter k qs n
+unfolding firstAfter
+first-alike zero ps qs same n = refl
+first-alike (suc k) ps qs same n = λ i. cond (same (following n) i) (first-alike k ps qs same (following n) i) (following n)
+
+-- whichever place has it, the next number is the same
+pub next-alike : (os : List Own) (last a b : ℕ) → InUse os a → InUse os b → nextNumber os last a ≡ nextNumber os last b
+unfolding nextNumber
+next-alike os last a b v w =
+    let hs = map heldNumber os in
+    first-alike 6 (a ∷ hs) hs (barred hs a (held-there a os v)) last ∙ sym (first-alike 6 (b ∷ hs) hs (barred hs b (held-there b os w)) last)
 
 pub system-distinct : SystemDistinct
 system-distinct os source last latest four h =

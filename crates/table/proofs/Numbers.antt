@@ -1,10 +1,10 @@
 -- The laws of `specs/Number.antt`: of six candidates no more are passed over than there are numbers to pass over, so where these are
--- five at most the search ends. Assumes nothing.
+-- five at most the search ends; and it never ends where it began. Assumes nothing.
 use Prim.Native.Nat.{ℕ, zero, suc, _+_, _-_, _≤_, _<_}
 use mathlib.Core.Path.{_≡_, refl, sym, ap, _∙_}
 use mathlib.Core.Bool.{Bool, true, false, cond, _||_, or-true}
 use mathlib.Core.List.{List, [], _∷_}
-use mathlib.Core.Logic.{_⊎_, inl, inr}
+use mathlib.Core.Logic.{_⊎_, inl, inr, _≢_}
 use native.Mathlib.Omega.{arith}
 use native.Mathlib.Numerals.{add-one}
 use native.Mathlib.Nat.{not-suc-le-zero}
@@ -12,6 +12,7 @@ use lib.Dec.{eqb, leb, ltb}
 use lib.ListN.{length, drop, getD, drop-of-length-le}
 use lib.Seq.{drop-cons}
 use borrow.Author.Tests.{eq-eqb, ne-eqb, eqb-true, eqb-false, leb-true, leb-false, ltb-true, ltb-false}
+use Rattle.wire.proofs.Choice.{either, chosen}
 use Rattle.table.specs.Number.{following, among, firstAfter}
 
 -- ---- how far a candidate is from the start of the search
@@ -117,6 +118,51 @@ wait-from (suc k) passed s c o hs hc a h l =
 -- no more candidates are passed over than there are numbers to pass over
 pub wait-le : (k : ℕ) (passed : List ℕ) (n : ℕ) → n ≤ 65535 → length passed ≤ 6 → wait k passed n ≤ length passed
 wait-le k passed n h l = omega (arith, wait-from k passed n n 0 h h (inl (omega arith)) (omega arith) l)
+
+-- ---- never the one it began at
+
+-- six steps do not lead round to it
+steps-apart : (s c o : ℕ) → s ≤ 65535 → 1 ≤ o → o ≤ 6 → Steps s c o → c ≢ s
+steps-apart s c o hs some few (inl a) e = omega arith
+steps-apart s c o hs some few (inr a) e = omega arith
+
+-- a search from s that has come to c in o steps does not come back in k more, whatever is passed over
+first-apart : (k : ℕ) (passed : List ℕ) (s c o : ℕ) → s ≤ 65535 → c ≤ 65535 → 1 ≤ o → o + k ≤ 6 → Steps s c o → firstAfter k passed c ≢ s
+unfolding firstAfter following
+first-apart zero passed s c o hs hc some few a = steps-apart s c o hs some (omega arith) a
+first-apart (suc k) passed s c o hs hc some few a =
+    let n = follows s c o (eqb c 65535) refl hs hc (omega arith) a in
+    chosen (λ m. m ≢ s) (among (following c) passed) (firstAfter k passed (following c)) (following c)
+    (λ e. first-apart k passed s (following c) (o + 1) hs (n .0) (omega arith) (omega arith) (n .1))
+    (λ e. steps-apart s (following c) (o + 1) hs (omega arith) (omega arith) (n .1))
+
+never-again : (passed : List ℕ) (n : ℕ) → n ≤ 65535 → firstAfter 6 passed n ≢ n
+unfolding firstAfter following
+never-again passed n h =
+    let f = follows n n 0 (eqb n 65535) refl h h (omega arith) (inl (omega arith)) in
+    chosen (λ m. m ≢ n) (among (following n) passed) (firstAfter 5 passed (following n)) (following n)
+    (λ e. first-apart 5 passed n (following n) 1 h (f .0) (omega arith) (omega arith) (f .1))
+    (λ e. steps-apart n (following n) 1 h (omega arith) (omega arith) (f .1))
+
+-- above 65,535 each is one on
+above-rises : (k : ℕ) (passed : List ℕ) (c : ℕ) → 65535 < c → c ≤ firstAfter k passed c
+unfolding firstAfter following
+above-rises zero passed c h = omega arith
+above-rises (suc k) passed c h =
+    rw (ne-eqb c 65535 (λ e. omega arith))
+    (chosen (λ m. c ≤ m) (among (c + 1) passed) (firstAfter k passed (c + 1)) (c + 1)
+    (λ e. omega (arith, above-rises k passed (c + 1) (omega arith))) (λ e. omega arith))
+
+-- so it does not end there whatever it began at
+pub never-once-more : (passed : List ℕ) (n : ℕ) → firstAfter 6 passed n ≢ n
+unfolding firstAfter following
+never-once-more passed n =
+    either (leb n 65535) (λ t. firstAfter 6 passed n ≢ n) (λ e. never-again passed n (leb-true n 65535 e))
+    (λ e.
+    let above : 65535 < n = leb-false n 65535 e in
+    rw (ne-eqb n 65535 (λ z. omega arith))
+    (chosen (λ m. m ≢ n) (among (n + 1) passed) (firstAfter 5 passed (n + 1)) (n + 1)
+    (λ t z. omega (arith, above-rises 5 passed (n + 1) (omega arith))) (λ t z. omega arith)))
 
 -- ---- one candidate
 

@@ -21,7 +21,7 @@ use Rattle.exchange.specs.declared.OwnReading.{OwnReading}
 use Rattle.link.specs.Answer.{outcomeNumber, noteNumber}
 use Rattle.link.specs.State.{startOf}
 use Rattle.link.specs.Run.{Left}
-use Rattle.link.specs.Reading.{ownOf}
+use Rattle.link.specs.Reading.{ownOf, droppedOf}
 use Rattle.link.specs.History.{Call, byte, tick, drained, request, called}
 use Rattle.link.specs.Door.{bytesLeft}
 use Rattle.link.specs.Refusals.{start-4, start-0}
@@ -31,14 +31,15 @@ use Rattle.link.proofs.refusals.Start.{start-exactly}
 use Rattle.link.proofs.refusals.Writes.{writes-only}
 use Rattle.talk.specs.Run.{Running, running, nothingRan, joinedRan, joins, bytesRun, ticksRun}
 use Rattle.script.specs.Command.{unread}
-use Rattle.script.specs.Lines.{Order, starts, opens, replies, frees-own, frees-incoming, hears, waits, drains, shows, Within, commandOf, bytesOf}
-use Rattle.script.specs.Printed.{numberText, textOf}
+use Rattle.script.specs.Lines.{Order, starts, opens, replies, frees-own, frees-incoming, hears, waits, drains, shows, counts, Within, commandOf, bytesOf}
+use Rattle.script.specs.Printed.{digitsOf, numberText, textOf}
+use Rattle.script.specs.declared.Command.the-variants as command
 use Rattle.script.specs.declared.Printed.the-variants as printed
 use Rattle.script.proofs.PrintedRules.{lines-exactly}
 use Rattle.script.proofs.Lines.{lines-read}
 use Rattle.script.proofs.Written.{orders-written}
 use Rattle.talk.specs.Answer.{Done, done, benchOf, unreadShown, verdictBy, startShown, doneBy, commandDone, earlyShown, toldDone, lineDone}
-use Rattle.talk.specs.Lines.{Makes, one-open, one-reply, one-own, one-incoming, no-byte, a-byte, no-tick, a-tick, one-drained, madeOn, outputs, lastNumber, lastNote, lastLink, lastRoom, CallsDone, OrderDone, Question, is-open, is-sent, is-answered, is-declined, is-other, is-broken, no-reply, send-failed, VerdictText, ReadingText, StartDone, Does, DoesEarly, LinesDo}
+use Rattle.talk.specs.Lines.{Makes, one-open, one-reply, one-own, one-incoming, no-byte, a-byte, no-tick, a-tick, one-drained, madeOn, outputs, lastNumber, lastNote, lastLink, lastRoom, CallsDone, OrderDone, Question, is-open, is-sent, is-answered, is-declined, is-other, is-broken, no-reply, send-failed, VerdictText, ReadingText, DroppedDone, StartDone, Does, DoesEarly, LinesDo}
 use Rattle.talk.specs.declared.Bench.{Bench}
 use Rattle.talk.specs.declared.Ran.{Ran}
 
@@ -198,7 +199,7 @@ said-bytes bs lent = take-at bs (drop (length bs) lent) (length bs) refl
 -- ---- a verdict
 
 verdict-text : (s : Standing) (p : ℕ) → freeBy s ≡ false → VerdictText s p (textOf (printed.Verdict p (standingNumber s)) [])
-unfolding numberText
+unfolding digitsOf numberText
 verdict-text standing.Free p e = absurd (false≢true (sym e))
 verdict-text standing.Open p e = record { verdict = 0; is = is-open; whole = lines-exactly [] .verdict p 0 }
 verdict-text (standing.Given verdict.Sent) p e = record { verdict = 1; is = is-sent; whole = lines-exactly [] .verdict p 1 }
@@ -210,7 +211,7 @@ verdict-text (standing.Given verdict.NoReply) p e = record { verdict = 6; is = n
 verdict-text (standing.Given verdict.SendFailed) p e = record { verdict = 7; is = send-failed; whole = lines-exactly [] .verdict p 7 }
 
 reading-text : (u : Link) (p : ℕ) → ReadingText (ownOf u p) p (textOf (verdictBy (ownOf u p) p) [])
-unfolding ownReading numberText
+unfolding ownReading digitsOf numberText
 reading-text u p =
     chosen (λ (r : OwnReading). ReadingText r p (textOf (verdictBy r p) [])) (ownIsFree (ownPlace (u .exchange) p)) _ _ (λ e. refl)
     (λ e. verdict-text (ownStanding (ownPlace (u .exchange) p)) p e)
@@ -218,7 +219,7 @@ reading-text u p =
 -- ---- a start
 
 start-done : (b : Bench) (s : Setup) (room out : List ℕ) → StartDone b s room out (done (startShown b s) room out)
-unfolding startShown numberText
+unfolding startShown digitsOf numberText
 start-done b s room out = record {
   accepted = λ fits.
       let number : outcomeNumber (startOf s .outcome) ≡ 0 = start-exactly .number s 0 .1 (start-0 fits) in
@@ -234,6 +235,9 @@ start-done b s room out = record {
 asked : (b : Bench) (room out : List ℕ) → Question b room out (done (unreadShown b) room out)
 asked b room out = record { text = refl; all = record { bench = refl; kept = refl; written = refl } }
 
+dropped-done : (u : Link) (lent room out : List ℕ) → DroppedDone u room out (commandDone u command.Dropped lent room out)
+dropped-done u lent room out = record { text = lines-exactly [] .dropped (droppedOf u); all = record { bench = refl; kept = refl; written = refl } }
+
 does : (u : Link) (o : Order) (lent room out : List ℕ) → Within o → Does u o room out (commandDone u (commandOf o) (onFront (bytesOf o) lent) room out)
 does u (starts s) lent room out w = start-done (benchOf true u) s room out
 does u (opens q bs) lent room out w = rw (said-bytes bs lent) (one-done u (opens q bs) room out (request (primary q bs)) (one-open q bs))
@@ -245,6 +249,7 @@ does u (hears bs) lent room out w =
 does u (waits n) lent room out w = let m = ticks-made n in order-done u (waits n) room out (m .calls) _ (m .made) (ticks-run _ n (m .calls) (m .made))
 does u drains lent room out w = one-done u drains room out drained one-drained
 does u (shows p) lent room out w = record { text = reading-text u p; all = record { bench = refl; kept = refl; written = refl } }
+does u counts lent room out w = dropped-done u lent room out
 
 does-early : (b : Bench) (o : Order) (room out : List ℕ) → DoesEarly b o room out (done (earlyShown b (commandOf o)) room out)
 does-early b (starts s) room out = start-done b s room out
@@ -256,6 +261,7 @@ does-early b (hears bs) room out = asked b room out
 does-early b (waits n) room out = asked b room out
 does-early b drains room out = asked b room out
 does-early b (shows p) room out = asked b room out
+does-early b counts room out = asked b room out
 
 -- a line that can't be read, started or not
 pub unread-done : (b : Bench) (bytes room out : List ℕ) → Question b room out (toldDone b (unread bytes) room out)

@@ -1,10 +1,12 @@
--- What a line puts out has room (`specs/Output.antt`). In one `T`: a NAK, the ENQ of a held block, and one for each retry. In one `B`: one
--- block, for it has to be drained before another byte counts, and two codes for every other byte. Assumes nothing.
+-- What a line puts out has room (`specs/Output.antt`). In one `T`: a NAK, the ENQ of a held block, one for each retry, and as many for each
+-- report that starts, of which twelve at most are due. In one `B`: one block, for it has to be drained before another byte counts, and two
+-- codes for every other byte. Assumes nothing.
 use Prim.Native.Nat.{ℕ, suc, _+_, _-_, _*_, _≤_, _<_}
-use mathlib.Core.Path.{_≡_, refl, sym, subst, _∙_}
+use mathlib.Core.Path.{_≡_, refl, sym, ap, subst, _∙_}
 use mathlib.Core.Bool.{Bool, true, false}
 use mathlib.Core.List.{List, [], _∷_}
-use mathlib.Core.Logic.{_≢_}
+use mathlib.Core.Logic.{_≢_, ⊎-elim}
+use native.Mathlib.Nat.{add-mul, mul-le-mul-right}
 use native.Mathlib.Omega.{arith}
 use lib.Dec.{eqb, ltb}
 use lib.ListN.{length, drop, length-append, length-drop}
@@ -17,7 +19,7 @@ use Rattle.settings.specs.declared.limits.Limits.{Limits}
 use Rattle.settings.specs.declared.timer.Timer.{Timer}
 use Rattle.settings.specs.declared.timer.Timer.the-variants.{RunsOut, Runs}
 use Rattle.line.specs.Codes.{ENQ, EOT, ACK, bytesOut}
-use Rattle.line.specs.Line.{Heard, lineAt, spent, retryOf, giveWay, eotByte, ackByte, lengthByte, lowByte, bodyByte, idleByte, byteAt, eotTick, ackTick, lengthTick, bodyTick, silenceTick, tickAt, tickOf, settleIdle, settleAt, settleOf}
+use Rattle.line.specs.Line.{Heard, askAt, holding, lineAt, spent, retryOf, giveWay, eotByte, ackByte, lengthByte, lowByte, bodyByte, idleByte, byteAt, eotTick, ackTick, lengthTick, bodyTick, silenceTick, tickAt, tickOf, settleIdle, settleAt, settleOf}
 use Rattle.line.specs.declared.phase.Phase.{Phase}
 use Rattle.line.specs.declared.phase.Phase.the-variants.{Idle, WaitEot, Draining, WaitAck, WaitLength, Body, Silence}
 use Rattle.line.specs.declared.line.Line.{Line}
@@ -27,14 +29,18 @@ use Rattle.line.specs.declared.step.Out.the-variants as out
 use Rattle.line.specs.declared.step.Told.{Told}
 use Rattle.line.specs.declared.step.Told.the-variants as told
 use Rattle.line.proofs.Alone.{ticks-tell}
+use Rattle.exchange.specs.Reports.{sameMessage}
 use Rattle.exchange.specs.Send.{failedOf}
 use Rattle.exchange.specs.Request.{primary, reply, free-own, free-incoming, sendingBy}
+use Rattle.exchange.specs.declared.Sending.{Sending}
 use Rattle.exchange.specs.declared.Exchange.{Exchange}
 use Rattle.exchange.proofs.BeingSent.{sending-ends}
+use Rattle.exchange.proofs.Same.{message-same}
 use Rattle.link.specs.Answer.{noteBy}
-use Rattle.link.specs.Courier.{courierBy}
+use Rattle.link.specs.Courier.{carried, goesOn, courierBy, courierOf}
 use Rattle.link.specs.Run.{Left, tells, passing, carriedBy, hears as hearsStep, stepped, byteStepped, byteStep, tickStep}
 use Rattle.link.specs.History.{Call, byte, tick, drained, request, called}
+use Rattle.link.specs.Refusals.{Fits}
 use Rattle.link.specs.declared.Link.{Link}
 use Rattle.link.specs.declared.Note.{Note}
 use Rattle.link.proofs.Cases.{by-gate, by-byte}
@@ -47,6 +53,7 @@ use Rattle.talk.specs.Lines.{Makes, one-open, one-reply, one-own, one-in
 use Rattle.talk.specs.Listing.{talked, silence}
 use Rattle.talk.specs.Output.{EachLent, OutputHolds}
 use Rattle.talk.specs.Reached.{UnitReached}
+use Rattle.talk.proofs.Due.{due, one, few-due, tick-due, failed-due}
 use Rattle.talk.proofs.Reached.{any-lines}
 
 -- ---- one `T`
@@ -118,35 +125,85 @@ settle-less r h (WaitLength timer) = omega arith
 settle-less r h (Body timer a) = omega arith
 settle-less r h (Silence timer fault) = omega arith
 
--- on a tick the courier asks for no block: what is being sent stays, or ends
-courier-less : (r : ℕ) (before : Bool) (l : Line) (k : ℕ) → most r (courierBy before false told.Failed l k .line) ≤ most r l
-courier-less r false l k = omega arith
-courier-less r true l k = omega arith
+asked-less : (r : ℕ) (h : Bool) (p : Phase) → most r (askAt p (lineAt h p)) ≤ most r (lineAt h p) + (r + 1)
+unfolding holding
+asked-less r h Idle = omega arith
+asked-less r h (WaitEot timer tries) = omega arith
+asked-less r h (Draining tries) = omega arith
+asked-less r h (WaitAck timer tries) = omega arith
+asked-less r h (WaitLength timer) = omega arith
+asked-less r h (Body timer a) = omega arith
+asked-less r h (Silence timer fault) = omega arith
 
-courier-stays : (before : Bool) (l : Line) (k : ℕ) → courierBy before before told.Nothing l k .line ≡ l
-courier-stays false l k = refl
-courier-stays true l k = refl
+-- behind a tick the courier asks for a block of a message that started; any other it leaves, or withdraws
+courier-less : (r : ℕ) (same before after : Bool) (t : Told) (l : Line) (k : ℕ) → goesOn t l k ≡ carried l k
+    → most r (courierBy same before after t l k .line) ≤ most r l + heldMost r after
+courier-less r same false false t l k e = omega arith
+courier-less r same false true t l k e = asked-less r (l .held) (l .phase)
+courier-less r same true false t l k e = omega arith
+courier-less r true true true t l k e = rw e (omega arith)
+courier-less r false true true t l k e = asked-less r (l .held) (l .phase)
+
+stays-by : (sends : Bool) (l : Line) (k : ℕ) → courierBy true sends sends told.Nothing l k .line ≡ l
+stays-by false l k = refl
+stays-by true l k = refl
+
+-- the same message, of which nothing is told
+courier-stays : (z : Sending) (l : Line) (k : ℕ) (room : List ℕ) → courierOf z z told.Nothing l k room .line ≡ l
+courier-stays z l k room = rw (message-same z z refl) (stays-by (sendingBy z) l k)
+
+-- a report that starts is due no longer, and has its ENQs before it
+pays : (r d e : ℕ) (starts : Bool) → d + one starts ≤ e → d * (r + 1) + heldMost r starts ≤ e * (r + 1)
+pays r d e false h = let less : d * (r + 1) ≤ e * (r + 1) = mul-le-mul-right (r + 1) (omega arith) in omega arith
+pays r d e true h =
+    let less : (d + 1) * (r + 1) ≤ e * (r + 1) = mul-le-mul-right (r + 1) h in
+    let parts : (d + 1) * (r + 1) ≡ d * (r + 1) + 1 * (r + 1) = add-mul d 1 (r + 1) in
+    omega arith
+
+-- the line and the reports that are due: what ticks can still put out
+abbrev still : ℕ → Line → Exchange → ℕ
+still r l x = most r l + due x * (r + 1)
 
 -- the transactions at the end of a tick, by what the line told
 abbrev tickedBy : Link → List ℕ → Told → Note → Exchange
 tickedBy u room t n = passing true (u .settings .terms) (tells t n u room .midway) .exchange
 
+-- where each message that is now being sent was due
+begun-less : (r : ℕ) (z : Sending) (x y : Exchange) (t : Told) (l : Line) (k : ℕ) (room : List ℕ) → goesOn t l k ≡ carried l k → due y + one (sendingBy (y .sending)) ≤ due x
+    → still r (courierOf z (y .sending) t l k room .line) y ≤ still r l x
+begun-less r z x y t l k room e h =
+    omega (arith, courier-less r (sameMessage z (y .sending)) (sendingBy z) (sendingBy (y .sending)) t l k e, pays r (due y) (due x) (sendingBy (y .sending)) h)
+
 carried-less : (u : Link) (room : List ℕ) (l : Line) (t : Told) (n : Note) → t ≢ told.PutOut → t ≢ told.Sent → ((m : ℕ) → t ≢ told.Up m)
-    → most (u .settings .limits .rty) (courierBy (sendingBy (u .exchange .sending)) (sendingBy (tickedBy u room t n .sending)) t l (u .block) .line)
-    ≤ most (u .settings .limits .rty) l
+    → still (u .settings .limits .rty) (courierOf (u .exchange .sending) (tickedBy u room t n .sending) t l (u .block) room .line) (tickedBy u room t n)
+    ≤ still (u .settings .limits .rty) l (u .exchange)
 carried-less u room l told.Nothing n put sent up =
-    let same = sending-ends (u .settings .terms) (u .exchange) .ticked in
-    rw (same, courier-stays (sendingBy (u .exchange .sending)) l (u .block)) (omega arith)
+    let r = u .settings .limits .rty in
+    let x = u .exchange in
+    let y = tickedBy u room told.Nothing n in
+    let d = tick-due (u .settings .terms) x in
+    ⊎-elim
+    (λ same.
+    let line : courierOf (x .sending) (y .sending) told.Nothing l (u .block) room .line ≡ l =
+    ap (λ (z : Sending). courierOf (x .sending) z told.Nothing l (u .block) room .line) same ∙ courier-stays (x .sending) l (u .block) room in
+    let goes : one (sendingBy (y .sending)) ≡ one (sendingBy (x .sending)) = ap (λ (z : Sending). one (sendingBy z)) same in
+    rw line (omega (arith, pays r (due y) (due x) false (omega arith))))
+    (λ begins.
+    let none : one (sendingBy (x .sending)) ≡ 0 = ap (λ (z : Sending). one (sendingBy z)) (begins .was) in
+    begun-less r (x .sending) x y told.Nothing l (u .block) room refl (omega arith))
+    (sending-ends (u .settings .terms) x .ticked)
 carried-less u room l told.PutOut n put sent up = absurd (put refl)
 carried-less u room l told.Sent n put sent up = absurd (sent refl)
 carried-less u room l told.Failed n put sent up =
-    let ended = sending-ends (u .settings .terms) (failedOf (u .exchange) .exchange) .ticked ∙ sending-ends (u .settings .terms) (u .exchange) .failed in
-    rw ended (courier-less (u .settings .limits .rty) (sendingBy (u .exchange .sending)) l (u .block))
+    begun-less (u .settings .limits .rty) (u .exchange .sending) (u .exchange) (tickedBy u room told.Failed n) told.Failed l (u .block) room refl
+    (omega (arith, tick-due (u .settings .terms) (failedOf (u .exchange) .exchange), failed-due (u .exchange)))
 carried-less u room l (told.Up m) n put sent up = absurd (up m refl)
 
 -- what a call puts out, and what ticks can put out behind it
 abbrev TickLess : Link → Left → Type 0
-TickLess u l = l .answer .count + most (l .answer .link .settings .limits .rty) (l .answer .link .line) ≤ most (u .settings .limits .rty) (u .line)
+TickLess u l =
+    l .answer .count + still (l .answer .link .settings .limits .rty) (l .answer .link .line) (l .answer .link .exchange)
+    ≤ still (u .settings .limits .rty) (u .line) (u .exchange)
 
 call-less : (u : Link) (room o : List ℕ) → TickLess u (called u room o tick)
 call-less u room o =
@@ -155,7 +212,8 @@ call-less u room o =
     let c = u .settings .limits in
     let s = tickOf c (u .line) in
     let v = hearsStep u (tickStep u) in
-    let l = carriedBy v (s .told) (tickedBy v room (s .told) (noteBy (s .remark))) room .line in
+    let x = tickedBy v room (s .told) (noteBy (s .remark)) in
+    let l = carriedBy v (s .told) x room .line in
     let first = tick-less c (u .line .held) (u .line .phase) in
     let second = carried-less v room (s .line) (s .told) (noteBy (s .remark)) (ticks-tell c (u .line) .not-out) (ticks-tell c (u .line) .not-sent) (ticks-tell c (u .line) .not-up) in
     let third = settle-less (c .rty) (l .held) (l .phase) in
@@ -223,7 +281,7 @@ ByteLess u n few l = l .answer .count ≤ 257 → l .answer .count + bytesAt (l 
 draining-less : (u : Link) (room o : List ℕ) (b n tries : ℕ) → u .line .phase ≡ Draining tries → ByteLess u n 0 (byteStepped u (byteStep u b) room o)
 draining-less u room o b n tries e =
     subst (λ (v : Link). ByteLess v n 0 (byteStepped v (byteStep v b) room o)) (λ i. at (sym e i))
-    (λ few. rw (courier-stays (sendingBy (u .exchange .sending)) (lineAt (u .line .held) (Draining tries)) (u .block)) (omega arith))
+    (λ few. rw (courier-stays (u .exchange .sending) (lineAt (u .line .held) (Draining tries)) (u .block) room) (omega arith))
   where
     at : Phase → Link
     at p = record { settings = u .settings; line = lineAt (u .line .held) p; received = u .received; exchange = u .exchange; block = u .block }
@@ -270,7 +328,7 @@ byte-less u room o b fits n =
 rest-length : (u : Link) (room out : List ℕ) (k : Call) → length (drop (called u room out k .answer .count) out) + called u room out k .answer .count ≡ length out
 rest-length u room out k = omega (arith, length-drop (called u room out k .answer .count) out, writes-only u room out k .output .within)
 
-ticks-lent : (u : Link) (room out : List ℕ) (n : ℕ) (ks : List Call) → Makes (waits n) ks → 257 + most (u .settings .limits .rty) (u .line) ≤ length out → EachLent u room out ks
+ticks-lent : (u : Link) (room out : List ℕ) (n : ℕ) (ks : List Call) → Makes (waits n) ks → 257 + still (u .settings .limits .rty) (u .line) (u .exchange) ≤ length out → EachLent u room out ks
 unfolding EachLent
 ticks-lent u room out _ _ no-tick h = tt
 ticks-lent u room out _ _ (a-tick n ks m) h =
@@ -309,9 +367,14 @@ held-few : (r : ℕ) (h : Bool) → r ≤ 31 → heldMost r h ≤ 32
 held-few r false h = omega arith
 held-few r true h = omega arith
 
-rty-few : (u : Link) (room : List ℕ) → UnitReached u room → u .settings .limits .rty ≤ 31
-rty-few u room w =
-    subst (λ (v : Link). v .settings .limits .rty ≤ 31) (w .link) (ranges-exactly .all (w .track .link) .0 (link-reached-in-range (w .track) (w .reached .reached)) .settings .rty-most)
+-- so with twelve reports due no more than this is still to come
+still-few : (u : Link) (room : List ℕ) → UnitReached u room → still (u .settings .limits .rty) (u .line) (u .exchange) ≤ 447
+still-few u room w =
+    let fits : Fits u = subst Fits (w .link) (ranges-exactly .all (w .track .link) .0 (link-reached-in-range (w .track) (w .reached .reached))) in
+    let r = u .settings .limits .rty in
+    let few = fits .settings .rty-most in
+    let reports : due (u .exchange) * (r + 1) ≤ 12 * (r + 1) = mul-le-mul-right (r + 1) (few-due (u .exchange) (fits .waiting)) in
+    omega (arith, phase-few r (u .line .phase) few, held-few r (u .line .held) few)
 
 line-lent : (u : Link) (room out : List ℕ) → UnitReached u room → length out ≡ 4096 → (line : List ℕ) (o : Order) (ks : List Call) → LineIs line o → length line ≤ 1024 → Makes o ks
     → EachLent u room out ks
@@ -326,9 +389,7 @@ line-lent u room out w e line _ _ is short (a-byte b fits bs ks m) =
     (omega (arith, bytes-most (u .line .phase) (length (b ∷ bs)), bytes-few line (b ∷ bs) is short))
 line-lent u room out w e line _ _ is short no-tick = tt
 line-lent u room out w e line _ _ is short (a-tick n ks m) =
-    let few = rty-few u room w in
-    ticks-lent u room out (suc n) (tick ∷ ks) (a-tick n ks m)
-    (omega (arith, phase-few (u .settings .limits .rty) (u .line .phase) few, held-few (u .settings .limits .rty) (u .line .held) few))
+    ticks-lent u room out (suc n) (tick ∷ ks) (a-tick n ks m) (omega (arith, still-few u room w))
 line-lent u room out w e line _ _ is short one-drained = one-lent u room out drained e
 
 pub output-holds : OutputHolds

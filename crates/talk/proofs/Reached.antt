@@ -24,7 +24,7 @@ use Rattle.link.specs.declared.Setup.{Setup}
 use Rattle.link.proofs.refusals.Start.{start-exactly, ranged-as}
 use Rattle.link.proofs.refusals.Writes.{writes-only}
 use Rattle.link.proofs.verdicts.Own.{none-above}
-use Rattle.script.specs.Lines.{Order, starts, opens, replies, frees-own, frees-incoming, hears, waits, drains, shows, OneOf}
+use Rattle.script.specs.Lines.{Order, starts, opens, replies, frees-own, frees-incoming, hears, waits, drains, shows, counts, OneOf}
 use Rattle.script.specs.Command.{Told}
 use Rattle.script.proofs.Lines.{known}
 use Rattle.talk.specs.Answer.{Done, benchOf, toldDone, lineDone, textDone}
@@ -148,6 +148,7 @@ does-holds u (hears bs) room out d h w = order-holds u (hears bs) room out d h w
 does-holds u (waits n) room out d h w = order-holds u (waits n) room out d h w
 does-holds u drains room out d h w = order-holds u drains room out d h w
 does-holds u (shows p) room out d h w = as-it-was (benchOf true u) room out d h (w .all)
+does-holds u counts room out d h w = as-it-was (benchOf true u) room out d h (w .all)
 
 early-holds : (b : Bench) (o : Order) (room out : List ℕ) (d : Done) → Holds b room out → DoesEarly b o room out d → HoldsIn d
 early-holds b (starts s) room out d h w = start-holds b s room out d h w
@@ -159,6 +160,7 @@ early-holds b (hears bs) room out d h w = as-it-was b room out d h (w .all)
 early-holds b (waits n) room out d h w = as-it-was b room out d h (w .all)
 early-holds b drains room out d h w = as-it-was b room out d h (w .all)
 early-holds b (shows p) room out d h w = as-it-was b room out d h (w .all)
+early-holds b counts room out d h w = as-it-was b room out d h (w .all)
 
 said-holds : (b : Bench) (line room out : List ℕ) → Holds b room out → length line ≤ 1024 → OneOf line → HoldsIn (lineDone b line room out)
 said-holds b line room out h short w = by (b .started) refl

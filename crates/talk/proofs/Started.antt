@@ -11,7 +11,7 @@ use Rattle.wire.proofs.Choice.{either}
 use Rattle.link.specs.Refusals.{StartRuled, start-4, start-0}
 use Rattle.link.specs.declared.Setup.{Setup}
 use Rattle.link.proofs.refusals.Start.{start-exactly}
-use Rattle.script.specs.Lines.{Order, starts, opens, replies, frees-own, frees-incoming, hears, waits, drains, shows, LineIs, OneOf}
+use Rattle.script.specs.Lines.{Order, starts, opens, replies, frees-own, frees-incoming, hears, waits, drains, shows, counts, LineIs, OneOf}
 use Rattle.script.specs.Command.{Told}
 use Rattle.script.proofs.Lines.{known}
 use Rattle.talk.specs.Answer.{Done, benchOf, toldDone, lineDone}
@@ -69,6 +69,7 @@ does-on b (hears bs) room out d w = order-on b (hears bs) room out d w
 does-on b (waits n) room out d w = order-on b (waits n) room out d w
 does-on b drains room out d w = order-on b drains room out d w
 does-on b (shows p) room out d w = ap (λ (x : Bench). x .started) (w .all .bench)
+does-on b counts room out d w = ap (λ (x : Bench). x .started) (w .all .bench)
 
 early-follows : (b : Bench) (line : List ℕ) (o : Order) (room out : List ℕ) (d : Done) → LineIs line o → length line ≤ 1024 → DoesEarly b o room out d → Follows b line d
 early-follows b line (starts s) room out d is short w = start-follows b line s room out d is short w
@@ -80,6 +81,7 @@ early-follows b line (hears bs) room out d is short w = as-it-was b line room ou
 early-follows b line (waits n) room out d is short w = as-it-was b line room out d (w .all)
 early-follows b line drains room out d is short w = as-it-was b line room out d (w .all)
 early-follows b line (shows p) room out d is short w = as-it-was b line room out d (w .all)
+early-follows b line counts room out d is short w = as-it-was b line room out d (w .all)
 
 said-follows : (b : Bench) (line room out : List ℕ) → length line ≤ 1024 → OneOf line → Follows b line (lineDone b line room out)
 said-follows b line room out short w = by (b .started) refl
@@ -144,6 +146,7 @@ early-question b line (hears bs) room out d is other w = w
 early-question b line (waits n) room out d is other w = w
 early-question b line drains room out d is other w = w
 early-question b line (shows p) room out d is other w = w
+early-question b line counts room out d is other w = w
 
 line-question : (b : Bench) (line room out : List ℕ) → b .started ≡ false → ((s : Setup) → LineIs line (starts s) → ⊥) → Question b room out (lineDone b line room out)
 unfolding lineDone

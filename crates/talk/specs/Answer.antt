@@ -11,7 +11,7 @@ use Rattle.link.specs.Answer.{outcomeNumber}
 use Rattle.link.specs.State.{startOf}
 use Rattle.link.specs.Run.{left}
 use Rattle.link.specs.Call.{openCall, replyCall, drainedCall, releaseOwnCall, releaseIncomingCall}
-use Rattle.link.specs.Reading.{ownOf}
+use Rattle.link.specs.Reading.{ownOf, droppedOf}
 use Rattle.link.specs.declared.Answer.{Answer}
 use Rattle.link.specs.declared.Link.{Link}
 use Rattle.link.specs.declared.Setup.{Setup}
@@ -90,6 +90,7 @@ commandDone u (command.Bytes n) bytes room out = doneBy (bytesRun (running (noth
 commandDone u (command.Ticks n) bytes room out = doneBy (ticksRun (running (nothingRan u) room out) n)
 commandDone u command.Drained bytes room out = doneBy (joins 0 out (drainedCall u room out))
 commandDone u (command.Verdict p) bytes room out = done (shownAs (benchOf true u) (verdictBy (ownOf u p) p) 0) room out
+commandDone u command.Dropped bytes room out = done (shownAs (benchOf true u) (printed.Dropped (droppedOf u)) 0) room out
 
 -- "before the first start that was not refused, prints `?`": a start alone does anything
 abbrev pub earlyShown : Bench → Command → Shown
@@ -103,6 +104,7 @@ earlyShown b (command.Bytes n) = unreadShown b
 earlyShown b (command.Ticks n) = unreadShown b
 earlyShown b command.Drained = unreadShown b
 earlyShown b (command.Verdict p) = unreadShown b
+earlyShown b command.Dropped = unreadShown b
 
 -- a line that was read
 abbrev pub toldDone : Bench → Told → List ℕ → List ℕ → Done

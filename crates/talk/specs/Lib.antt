@@ -3,6 +3,7 @@ pub mod Answer
 pub mod Listing
 pub mod Round
 pub mod Overtaken
+pub mod Reported
 pub mod Lines
 pub mod Each
 pub mod Reached

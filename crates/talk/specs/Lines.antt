@@ -1,6 +1,6 @@
 -- What each line does, and what is printed for it (01, "Bench program and proved table"): over every line, unit, room and output memory.
 -- Which line asks for what is `LineIs` (script/specs/Lines.antt), the unit's calls are `called` (link/specs/History.antt), and what a user
--- reads of a place is `ownOf` (link/specs/Reading.antt). Proved in `proofs/Lines.antt`.
+-- reads of a place is `ownOf`, of the reports that were dropped `droppedOf` (link/specs/Reading.antt). Proved in `proofs/Lines.antt`.
 use Prim.Native.Nat.{ℕ, suc, _+_, _≤_, _<_}
 use mathlib.Core.Path.{_≡_}
 use mathlib.Core.Bool.{true, false}
@@ -17,13 +17,13 @@ use Rattle.exchange.specs.declared.OwnReading.the-variants as own
 use Rattle.link.specs.Answer.{outcomeNumber, noteNumber}
 use Rattle.link.specs.State.{freshLink}
 use Rattle.link.specs.Run.{Left}
-use Rattle.link.specs.Reading.{ownOf}
+use Rattle.link.specs.Reading.{ownOf, droppedOf}
 use Rattle.link.specs.History.{Call, byte, tick, drained, request, called}
 use Rattle.link.specs.Door.{bytesLeft}
 use Rattle.link.specs.Refusals.{SetupFits, inTicks}
 use Rattle.link.specs.declared.Link.{Link}
 use Rattle.link.specs.declared.Setup.{Setup}
-use Rattle.script.specs.Lines.{Order, starts, opens, replies, frees-own, frees-incoming, hears, waits, drains, shows, LineIs, OneOf}
+use Rattle.script.specs.Lines.{Order, starts, opens, replies, frees-own, frees-incoming, hears, waits, drains, shows, counts, LineIs, OneOf}
 use Rattle.script.specs.Printed.{numberText, dataText}
 use Rattle.talk.specs.Answer.{Done, benchOf, lineDone, textDone}
 use Rattle.talk.specs.declared.Bench.{Bench}
@@ -133,6 +133,11 @@ pub record VerdictDone (u : Link) (p : ℕ) (room out : List ℕ) (d : Done) : T
   pub text : ReadingText (ownOf u p) p (textDone d)
   pub all : AsItWas (benchOf true u) room out d
 
+-- "`K n`, decimal" (02, request 2): how many reports were dropped, as it is read of the unit
+pub record DroppedDone (u : Link) (room out : List ℕ) (d : Done) : Type 0 where
+  pub text : textDone d ≡ 0x4B ∷ 0x20 ∷ (numberText (droppedOf u) ++ (0x0A ∷ []))
+  pub all : AsItWas (benchOf true u) room out d
+
 -- a start that is accepted begins anew, and the room is as it was
 pub record StartAccepted (s : Setup) (room out : List ℕ) (d : Done) : Type 0 where
   -- `0 - 20`
@@ -162,6 +167,7 @@ Does u (hears bs) room out d = OrderDone u (hears bs) room out d
 Does u (waits n) room out d = OrderDone u (waits n) room out d
 Does u drains room out d = OrderDone u drains room out d
 Does u (shows p) room out d = VerdictDone u p room out d
+Does u counts room out d = DroppedDone u room out d
 
 -- "before the first start that was not refused": of all lines a start alone does anything
 abbrev pub DoesEarly : Bench → Order → List ℕ → List ℕ → Done → Type 0
@@ -174,6 +180,7 @@ DoesEarly b (hears bs) room out d = Question b room out d
 DoesEarly b (waits n) room out d = Question b room out d
 DoesEarly b drains room out d = Question b room out d
 DoesEarly b (shows p) room out d = Question b room out d
+DoesEarly b counts room out d = Question b room out d
 
 pub record LineDoes (b : Bench) (line room out : List ℕ) (d : Done) : Type 0 where
   -- "A line it can't read .., over 1,024 bytes"

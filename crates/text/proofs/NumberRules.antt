@@ -1,12 +1,12 @@
 -- A number is read exactly if a text is decimal digits that say it. Assumes nothing.
 use Prim.Native.Nat.{ℕ, zero, suc, _+_, _-_, _*_, _^_, _≤_, _<_}
 use mathlib.Core.Path.{_≡_, refl, sym, ap, _∙_}
-use mathlib.Core.List.{List, [], _∷_}
+use mathlib.Core.List.{List, [], _∷_, _++_}
 use mathlib.Core.Logic.{_↔_}
-use native.Mathlib.Nat.{mul-one, zero-mul, mul-assoc, add-mul, add-assoc, one-le-pow, mul-le-mul-left, pow-zero, pow-succ'}
+use native.Mathlib.Nat.{mul-one, zero-mul, mul-assoc, add-mul, add-assoc, one-le-pow, mul-le-mul-left, pow-zero, pow-succ', mul-left-comm, mul-comm}
 use native.Mathlib.Omega.{arith}
 use lib.Dec.{ltb, leb}
-use lib.ListN.{length, getD}
+use lib.ListN.{length, getD, length-append}
 use borrow.Author.Tests.{le-ltb, ltb-false, leb-true, leb-false}
 use Rattle.wire.proofs.Choice.{either, chosen}
 use Rattle.text.specs.Number.{none, withDigit, withDigits, numberOf}
@@ -107,15 +107,29 @@ number-exactly text = record {
       (λ e. let many = leb-false (numberOf text) 100000 e in let most = number-most text in omega arith);
 }
 
--- digits that are printed, one behind another
-pub one-read : (a : ℕ) → Decimal a → numberOf (a ∷ []) ≡ a - 0x30
-unfolding numberOf withDigits
-one-read a x = digit-some 0 a x (omega arith) ∙ omega arith
+-- ---- numbers that are put together digit by digit
 
-pub two-read : (a b : ℕ) → Decimal a → Decimal b → numberOf (a ∷ b ∷ []) ≡ (a - 0x30) * 10 + (b - 0x30)
-unfolding numberOf withDigits
-two-read a b x y = ap (λ (k : ℕ). withDigit k b) (one-read a x) ∙ digit-some (a - 0x30) b y (omega arith)
+-- one digit says its value
+pub says-one : (b : ℕ) → Decimal b → Says (b ∷ []) (b - 0x30)
+unfolding valueOf
+says-one b d = record { some = omega arith; digits = first-decimal b [] d (λ i h. absurd (omega arith)); value = rw (pow-zero, mul-one) (omega arith) }
 
-pub three-read : (a b c : ℕ) → Decimal a → Decimal b → Decimal c → numberOf (a ∷ b ∷ c ∷ []) ≡ ((a - 0x30) * 10 + (b - 0x30)) * 10 + (c - 0x30)
-unfolding numberOf withDigits
-three-read a b c x y z = ap (λ (k : ℕ). withDigit k c) (two-read a b x y) ∙ digit-some ((a - 0x30) * 10 + (b - 0x30)) c z (omega arith)
+value-behind : (text : List ℕ) (b : ℕ) → valueOf (text ++ (b ∷ [])) ≡ valueOf text * 10 + (b - 0x30)
+unfolding valueOf
+value-behind [] b = rw (pow-zero, mul-one) (omega arith)
+value-behind (a ∷ text) b =
+    let size : length (text ++ (b ∷ [])) ≡ suc (length text) = omega (arith, length-append text (b ∷ [])) in
+    let ten : (a - 0x30) * 10 ^ suc (length text) ≡ (a - 0x30) * 10 ^ length text * 10 = simp (pow-succ', mul-assoc, mul-comm, mul-left-comm) in
+    rw (size, ten, value-behind text b) (omega arith)
+
+decimals-behind : (text : List ℕ) (b : ℕ) → Decimals text → Decimal b → Decimals (text ++ (b ∷ []))
+decimals-behind [] b ds d = first-decimal b [] d (λ i h. absurd (omega arith))
+decimals-behind (a ∷ text) b ds d = first-decimal a (text ++ (b ∷ [])) (ds 0 (omega arith)) (decimals-behind text b (λ i h. ds (suc i) (omega arith)) d)
+
+-- one digit more behind others
+pub says-behind : {text : List ℕ} {n : ℕ} (b : ℕ) → Says text n → Decimal b → Says (text ++ (b ∷ [])) (n * 10 + (b - 0x30))
+says-behind {text} b s d = record {
+  some = omega (arith, length-append text (b ∷ []));
+  digits = decimals-behind text b (s .digits) d;
+  value = value-behind text b ∙ ap (λ (k : ℕ). k * 10 + (b - 0x30)) (s .value);
+}

@@ -1,14 +1,16 @@
--- What leaves in a call: codes at the front of the output, or a whole block. Assumes nothing.
+-- What leaves in a call: codes at the front of the output, or a whole block, of a message or of a report. Assumes nothing.
 use Prim.Native.Nat.{ℕ, _+_, _≤_}
 use mathlib.Core.Path.{_≡_, refl, sym, ap, _∙_}
 use mathlib.Core.Bool.{true, false, false≢true}
-use mathlib.Core.List.{List, [], _∷_, _++_}
+use mathlib.Core.List.{List, [], _∷_, _++_, append-nil}
 use native.Mathlib.Omega.{arith}
-use lib.ListN.{length, set, length-append, length-set}
+use lib.ListN.{length, set, replicate, take, drop, length-append, length-set, drop-of-length-le}
+use lib.Seq.{take-all}
 use borrow.Author.Tests.{le-ltb, le-leb, eq-eqb}
-use Rattle.wire.specs.Lent.{onFront}
+use Rattle.wire.specs.Lent.{onFront, putAt as putBytes}
 use Rattle.wire.specs.Sum.{checksumOf}
 use Rattle.wire.proofs.Choice.{either}
+use Rattle.wire.proofs.Lent.{front-put}
 use Rattle.header.specs.Header.{headerBytes}
 use Rattle.header.specs.declared.header.Header.{Header}
 use Rattle.cut.specs.Blocks.{cutOf}
@@ -27,6 +29,7 @@ use Rattle.room.proofs.Reading.{bytes-read, nothing-read}
 use Rattle.line.specs.Codes.{bytesOut}
 use Rattle.line.specs.declared.step.Out.{Out}
 use Rattle.line.specs.declared.step.Out.the-variants as out
+use Rattle.exchange.specs.Reports.{reportBody}
 use Rattle.exchange.specs.declared.Outgoing.{Outgoing}
 use Rattle.exchange.specs.declared.Outgoing.the-variants as outgoing
 use Rattle.link.specs.Run.{codes, bytesBy, blockIn}
@@ -124,5 +127,26 @@ part-fits h g n k start size room m e q =
     (λ f. let none = nothing-read room m start size (λ l. false≢true (sym f ∙ lies-exactly room m start size .1 l)) in
     rw none (omega arith))
 
-pub cut-from : (m : Outgoing) (h : Header) (n k : ℕ) (room : List ℕ) {c : Cut} → m ≡ outgoing.Message h n → c ≡ cutOf h n k → blockIn m k room ≡ bytesBy c room
-cut-from m h n k room e q = rw (e, q) refl
+pub cut-from : (device : ℕ) (shown : List ℕ) (m : Outgoing) (h : Header) (n k : ℕ) (room : List ℕ) {c : Cut} → m ≡ outgoing.Message h n → c ≡ cutOf h n k
+    → blockIn device shown m k room ≡ bytesBy c room
+cut-from device shown m h n k room e q = rw (e, q) refl
+
+-- ---- a report
+
+-- the fixed bytes, and behind them the ten that it shows
+abbrev blank : List ℕ
+blank = replicate 12 0
+
+abbrev fixed : List ℕ
+fixed = 33 ∷ 10 ∷ []
+
+pub report-body : (shown : List ℕ) {a b : List ℕ} → length shown ≡ 10 → a ≡ putBytes blank 0 fixed → b ≡ putBytes a 2 shown → b ≡ reportBody shown
+unfolding onFront
+report-body shown ten p q =
+    let first : putBytes blank 0 fixed ≡ onFront fixed blank = front-put blank [] fixed 0 refl (omega arith) in
+    let both : putBytes (onFront fixed blank) 2 shown ≡ onFront (fixed ++ shown) blank = front-put blank fixed shown 2 refl (omega (arith, ten)) in
+    let full : length blank ≤ length (fixed ++ shown) = omega (arith, ten) in
+    let none : drop (length (fixed ++ shown)) blank ≡ [] = drop-of-length-le blank full in
+    let whole : take 10 shown ≡ shown = take-all 10 shown (omega (arith, ten)) in
+    q ∙ ap (λ (l : List ℕ). putBytes l 2 shown) (p ∙ first) ∙ both ∙ ap (λ (l : List ℕ). (fixed ++ shown) ++ l) none ∙ append-nil (fixed ++ shown)
+    ∙ ap (λ (l : List ℕ). fixed ++ l) (sym whole)

@@ -5,6 +5,7 @@ use mathlib.Core.Bool.{Bool, true, false, false≢true}
 use mathlib.Core.List.{List, []}
 use native.Mathlib.Omega.{arith}
 use lib.ListN.{length, take, drop}
+use borrow.Author.Tests.{eq-eqb}
 use Rattle.wire.specs.Bytes.{part}
 use Rattle.wire.specs.Lent.{onFront}
 use Rattle.line.specs.Line.{Heard, heard, settleOf}
@@ -18,6 +19,7 @@ use Rattle.line.specs.declared.step.Remark.the-variants as remark
 use Rattle.line.specs.declared.step.Step.{Step}
 use Rattle.exchange.specs.Flags.{noFlags}
 use Rattle.exchange.specs.Judge as exchange
+use Rattle.exchange.specs.Reports.{sameMessage}
 use Rattle.exchange.specs.Request.{Requesting, requesting, sendingBy}
 use Rattle.exchange.specs.Send.{outgoingOf}
 use Rattle.exchange.specs.Tick.{isStill}
@@ -25,11 +27,13 @@ use Rattle.exchange.specs.declared.Flags.{Flags}
 use Rattle.exchange.specs.declared.Judged.{Judged}
 use Rattle.exchange.specs.declared.Outgoing.{Outgoing}
 use Rattle.exchange.specs.declared.Requested.{Requested}
+use Rattle.exchange.specs.declared.Sending.{Sending}
+use Rattle.exchange.specs.declared.Sending.the-variants as sending
 use Rattle.exchange.proofs.Stilling.{still-tick}
 use Rattle.link.specs.Answer.{noteBy}
 use Rattle.link.specs.Courier.{carried, courierBy}
 use Rattle.link.specs.State.{withLine, withExchange, partsOf, answerAs, refusedAs, linkInRange, gateOf}
-use Rattle.link.specs.Run.{Left, left, leaves, Telling, telling, untold, tells, judgedAs, passing, codes, settled, course, blockIn, blockOut, unlessBlock, hearing, onward, stepped, byteOnward, byteStepped, byteStep}
+use Rattle.link.specs.Run.{Left, left, leaves, Telling, telling, untold, tells, judgedAs, ticked, passing, codes, settled, course, blockIn, blockOut, unlessBlock, hearing, onward, stepped, byteOnward, byteStepped, byteStep}
 use Rattle.link.specs.Call.{gated, requestedBy, requestedAs}
 use Rattle.link.specs.declared.Carried.{Carried}
 use Rattle.link.specs.declared.Midway.{Midway}
@@ -117,21 +121,27 @@ pub goes-onward : (u : Link) (p : Out) (ticks : Bool) (t : Told) (o : List ℕ) 
 goes-onward u p ticks t o {m} {h} {room} e f q =
     q ∙ ap (λ (n : Midway). course u p t n outcome.Done room o) e ∙ ap (λ (z : Telling). onward p ticks t u z o) f
 
+-- the block of a message that is on its way
+abbrev blockOn : Link → Outgoing → List ℕ → List ℕ
+blockOn u z room = blockIn (u .settings .terms .device) (u .exchange .reports .shown) z (u .block) room
+
 -- or the whole block has gone out before they are told
 pub block-left : (u : Link) (room o : List ℕ) {z : Outgoing} {n : ℕ} {put after : List ℕ} {m : Midway} {r : Telling} {a : Answer}
-    → z ≡ outgoingOf (u .exchange) → (n ≡ length (blockIn z (u .block) room)) × (put ≡ onFront (blockIn z (u .block) room) o)
+    → z ≡ outgoingOf (u .exchange) → (n ≡ length (blockOn u z room)) × (put ≡ onFront (blockOn u z room) o)
     → telling m after ≡ r → a ≡ answerAs (withExchange u (m .exchange)) n outcome.Done (m .note) (m .flags) → left a after put ≡ blockOut u r room o
 block-left u room o {after = after} {m = m} e q f p =
     all (p ∙ ap (λ (k : ℕ). answerAs (withExchange u (m .exchange)) k outcome.Done (m .note) (m .flags)) (q .0)) refl (q .1)
-    ∙ ap (λ (y : Outgoing). leaves (blockIn y (u .block) room) (withExchange u (m .exchange)) outcome.Done m after o) e
+    ∙ ap (λ (y : Outgoing). leaves (blockOn u y room) (withExchange u (m .exchange)) outcome.Done m after o) e
     ∙ ap (λ (y : Telling). blockOut u y room o) f
 
 -- ---- the short ways
 
 -- where what is being sent is as it was and nothing is told, the courier does nothing
-at-rest : (b : Bool) (l : Line) (k : ℕ) → courierBy b b told.Nothing l k ≡ carried l k
-at-rest true l k = refl
-at-rest false l k = refl
+at-rest : (s : Sending) (l : Line) (k : ℕ) → courierBy (sameMessage s s) (sendingBy s) (sendingBy s) told.Nothing l k ≡ carried l k
+at-rest sending.Nothing l k = refl
+at-rest (sending.Primary p n) l k = rw (eq-eqb p p refl, eq-eqb n n refl) refl
+at-rest (sending.Reply p f n) l k = rw (eq-eqb p p refl, eq-eqb f f refl, eq-eqb n n refl) refl
+at-rest (sending.Report f n) l k = rw (eq-eqb f f refl, eq-eqb n n refl) refl
 
 -- what is left where the line settles and nothing else is done
 abbrev settling : Out → Link → List ℕ → List ℕ → Left
@@ -142,9 +152,10 @@ quiet-onward : (p : Out) (ticks : Bool) (t : Told) (r : Remark) (u : Link) (room
     → passing ticks (u .settings .terms) (untold (u .exchange) note.Nothing) ≡ untold (u .exchange) note.Nothing
     → onward p ticks t u (hearing t r u room) o ≡ settling p u room o
 quiet-onward p ticks told.Nothing remark.Nothing u room o q still =
-    let b = sendingBy (u .exchange .sending) in
-    ap (λ (m : Midway). settled u p (courierBy b (sendingBy (m .exchange .sending)) told.Nothing (u .line) (u .block)) m outcome.Done room o) still
-    ∙ ap (λ (c : Carried). settled u p c (untold (u .exchange) note.Nothing) outcome.Done room o) (at-rest b (u .line) (u .block))
+    let s = u .exchange .sending in
+    ap (λ (m : Midway). settled u p (courierBy (sameMessage s (m .exchange .sending)) (sendingBy s) (sendingBy (m .exchange .sending)) told.Nothing (u .line) (u .block)) m outcome.Done room o)
+    still
+    ∙ ap (λ (c : Carried). settled u p c (untold (u .exchange) note.Nothing) outcome.Done room o) (at-rest s (u .line) (u .block))
 quiet-onward p ticks told.Nothing remark.GaveWay u room o q still = absurd (false≢true q)
 quiet-onward p ticks told.Nothing remark.NoLength u room o q still = absurd (false≢true q)
 quiet-onward p ticks told.Nothing remark.Gap u room o q still = absurd (false≢true q)
@@ -180,7 +191,7 @@ module _ (v : Link) (room o : List ℕ) (put : Out) {a : Answer} {f : Flags} {no
       → length (v .exchange .own) ≡ 4 → length (v .exchange .incoming) ≡ 4 → isStill (v .exchange) ≡ true
       → left a room now ≡ onward put true t v (hearing t r v room) o
   short-tick t r q four fours still =
-      shortly ∙ sym (quiet-onward put true t r v room o (quiet-says put t r q) (rw (still-tick (v .settings .terms) (v .exchange) four fours still) refl))
+      shortly ∙ sym (quiet-onward put true t r v room o (quiet-says put t r q) (ap (ticked (untold (v .exchange) note.Nothing)) (still-tick (v .settings .terms) (v .exchange) four fours still)))
 
 -- ---- a request
 

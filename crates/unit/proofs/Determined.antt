@@ -30,6 +30,12 @@ use Rattle.unit.proofs.reading.incoming_data.Reads as incoming-data-rea
 use Rattle.unit.proofs.reading.incoming_data.Kinds as incoming-data-kinds
 use Rattle.unit.proofs.reading.is_sending.Reads as is-sending-reads
 use Rattle.unit.proofs.reading.is_sending.Kinds as is-sending-kinds
+use Rattle.unit.proofs.reading.sending.Reads as sending-reads
+use Rattle.unit.proofs.reading.sending.Kinds as sending-kinds
+use Rattle.unit.proofs.reading.dropped.Reads as dropped-reads
+use Rattle.unit.proofs.reading.dropped.Kinds as dropped-kinds
+use Rattle.unit.proofs.reading.last_number.Reads as last-number-reads
+use Rattle.unit.proofs.reading.last_number.Kinds as last-number-kinds
 use Rattle.unit.proofs.answer.refusal_number.Reads as refusal-number-reads
 use Rattle.unit.proofs.answer.refusal_number.Kinds as refusal-number-kinds
 use Rattle.unit.proofs.answer.outcome_number.Reads as outcome-number-reads
@@ -75,6 +81,15 @@ incoming-data-determined κs a = (tt, λ x y s t p q. p ∙ sym q)
 
 pub is-sending-determined : Determined 0 is-sending-kinds.ps is-sending-kinds.r is-sending-reads.Asked is-sending-reads.Post (λ κs r s. r)
 is-sending-determined κs a = (tt, λ x y s t p q. p ∙ sym q)
+
+pub sending-determined : Determined 0 sending-kinds.ps sending-kinds.r sending-reads.Asked sending-reads.Post (λ κs r s. r)
+sending-determined κs a = (tt, λ x y s t p q. p ∙ sym q)
+
+pub dropped-determined : Determined 0 dropped-kinds.ps dropped-kinds.r dropped-reads.Asked dropped-reads.Post (λ κs r s. r)
+dropped-determined κs a = (tt, λ x y s t p q. p ∙ sym q)
+
+pub last-number-determined : Determined 0 last-number-kinds.ps last-number-kinds.r last-number-reads.Asked last-number-reads.Post (λ κs r s. r)
+last-number-determined κs a = (tt, λ x y s t p q. p ∙ sym q)
 
 pub refusal-number-determined : Determined 0 refusal-number-kinds.ps refusal-number-kinds.r refusal-number-reads.Asked refusal-number-reads.Post (λ κs r s. r)
 refusal-number-determined κs a = (tt, λ x y s t p q. p ∙ sym q)

@@ -37,9 +37,10 @@ fn goes_on(told: Told, line: Line, block: u16) -> Carried
     }
 }
 
-// What is being sent before a call and after it is compared: a message that began is asked for from its first block, one that goes on
-// has its next block asked for behind an ACK, one that is gone is withdrawn from the line. Where nothing changes and nothing is told
-// nothing is done, so that a call may leave the courier out (call.rt). The room is lent for what is to be sent; nothing is read yet.
+// What is being sent before a call and after it is compared: a message that began is asked for from its first block, also a report that
+// starts as a message ends; one that goes on has its next block asked for behind an ACK, one that is gone is withdrawn from the line.
+// Where nothing changes and nothing is told nothing is done, so that a call may leave the courier out (call.rt). The room is lent for what
+// is to be sent; nothing is read yet.
 fn courier(
     before: Sending,
     after: Sending,
@@ -51,16 +52,22 @@ fn courier(
     requires { ⌜ block ≤ mostBlocks ⌝ }
     ensures { λ r. ⌜ r ≡ courierOf before after told line block (now (room .entry)) ⌝ }
 {
-    if clerk::is_message(before) {
-        if clerk::is_message(after) {
-            return goes_on(told, line, block);
+    if desk::is_message(before) {
+        if desk::is_message(after) {
+            if desk::same_message(before, after) {
+                return goes_on(told, line, block);
+            }
+            return Carried {
+                line: line.ask(),
+                block: 1,
+            };
         }
         return Carried {
             line: line.withdraw(),
             block: 1,
         };
     }
-    if clerk::is_message(after) {
+    if desk::is_message(after) {
         return Carried {
             line: line.ask(),
             block: 1,

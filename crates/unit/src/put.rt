@@ -6,6 +6,7 @@ ghost use lib.ListN.{length};
 ghost use Rattle.wire.specs.Lent.{onFront};
 ghost use Rattle.block.specs.Block.{blockOf};
 ghost use Rattle.line.specs.Codes.{bytesOut};
+ghost use Rattle.exchange.specs.Reports.{reportBody, reportHeader};
 ghost use Rattle.link.specs.Run.{blockIn, codes};
 ghost use Rattle.unit.specs.Put.{putAt};
 use block::Written;
@@ -51,10 +52,44 @@ fn put_block(out: &mut [u8], header: Header, data: &[u8]) -> usize
     }
 }
 
-// Block `k` of a message whose data lies in the send area.
-pub(crate) fn put_message(out: &mut [u8], message: Outgoing, k: u16, room: &[u8]) -> usize
+// The header of a report, to the host: one block, with W = 0, source ID 0 and its transaction number.
+fn report_header(device: u16, function: u8, number: u16) -> Header
+    ensures { λ r. ⌜ r ≡ reportHeader device function number ⌝ }
+{
+    Header {
+        r: true,
+        device,
+        w: false,
+        stream: 9,
+        function,
+        e: true,
+        number: 1,
+        system: number as u32,
+    }
+}
+
+// A report: "The body is the two bytes hex 21 0A, then the ten header bytes of the offending block". No byte of it ever lies in the room.
+fn put_report(out: &mut [u8], device: u16, shown: [u8; 10], function: u8, number: u16) -> usize
     requires { ⌜ 257 ≤ length (now out) ⌝ }
-    ensures { λ r. ⌜ (r ≡ length (blockIn message k (now (room .entry)))) × (now (out .exit) ≡ onFront (blockIn message k (now (room .entry))) (now (out .entry))) ⌝ }
+    ensures { λ r. ⌜ (r ≡ length (blockOf (reportHeader device function number) (reportBody shown))) × (now (out .exit) ≡ onFront (blockOf (reportHeader device function number) (reportBody shown)) (now (out .entry))) ⌝ }
+{
+    let mut body = [0; 12];
+    wire::put(&mut body, 0, b"\x21\x0A");
+    wire::put(&mut body, 2, &shown);
+    put_block(out, report_header(device, function, number), &body)
+}
+
+// Block `k` of a message whose data lies in the send area, or a report, which shows `shown`.
+pub(crate) fn put_message(
+    out: &mut [u8],
+    device: u16,
+    shown: [u8; 10],
+    message: Outgoing,
+    k: u16,
+    room: &[u8],
+) -> usize
+    requires { ⌜ 257 ≤ length (now out) ⌝ }
+    ensures { λ r. ⌜ (r ≡ length (blockIn device shown message k (now (room .entry)))) × (now (out .exit) ≡ onFront (blockIn device shown message k (now (room .entry))) (now (out .entry))) ⌝ }
 {
     match message {
         Outgoing::Nothing => 0,
@@ -72,5 +107,6 @@ pub(crate) fn put_message(out: &mut [u8], message: Outgoing, k: u16, room: &[u8]
                 Cut::NoBlock => 0,
             }
         }
+        Outgoing::Report { function, number } => put_report(out, device, shown, function, number),
     }
 }

@@ -1,8 +1,9 @@
 // What a user reads of the unit.
 ghost use mathlib.Core.Path.{_≡_};
-ghost use Rattle.link.specs.Reading.{incomingData, incomingOf, ownOf, replyData, sendingOf};
+ghost use Rattle.link.specs.Reading.{droppedOf, incomingData, incomingOf, lastNumberOf, messageOf, ownOf, replyData, sendingOf};
 use exchange::IncomingReading;
 use exchange::OwnReading;
+use exchange::Sending;
 use link::Link;
 use room::Message;
 
@@ -57,4 +58,29 @@ pub fn is_sending(link: Link) -> bool
 {
     let exchange = link.exchange;
     clerk::is_sending(exchange)
+}
+
+// Which message that is: a primary of an own place, a reply of an incoming one, or a report with its function and number.
+pub fn sending(link: Link) -> Sending
+    ensures { λ r. ⌜ r ≡ messageOf link ⌝ }
+{
+    let exchange = link.exchange;
+    exchange.sending
+}
+
+// How many reports were dropped since the start.
+pub fn dropped(link: Link) -> u32
+    ensures { λ r. ⌜ r ≡ droppedOf link ⌝ }
+{
+    let exchange = link.exchange;
+    let reports = exchange.reports;
+    reports.dropped
+}
+
+// The last transaction number given, which a scheduler keeps for the next start: reports take numbers unasked.
+pub fn last_number(link: Link) -> u16
+    ensures { λ r. ⌜ r ≡ lastNumberOf link ⌝ }
+{
+    let exchange = link.exchange;
+    exchange.numbers.last
 }

@@ -60,7 +60,16 @@ fn block_out(mut link: Link, told: Told, remark: Remark, room: &mut [u8], out: &
     ensures { λ r. ⌜ left r (now (room .exit)) (now (out .exit)) ≡ blockOut link (hearing told remark link (now (room .entry))) (now (room .entry)) (now (out .entry)) ⌝ }
 {
     let exchange = link.exchange;
-    let count = put_message(out, clerk::outgoing(exchange), link.block, room);
+    let reports = exchange.reports;
+    let shown = reports.shown;
+    let count = put_message(
+        out,
+        link.settings.terms.device,
+        shown,
+        clerk::outgoing(exchange),
+        link.block,
+        room,
+    );
     let heard = tells(link, told, note_of(remark), room);
     let after = heard.exchange;
     let note = heard.note;

@@ -40,7 +40,7 @@ fn changed_to(changed: Changed, note: Note) -> Midway
     }
 }
 
-// Whether a message has a block behind block `k`.
+// Whether a message has a block behind block `k`; a report is one block.
 fn has_next(message: Outgoing, k: u16) -> bool
     ensures { λ r. ⌜ r ≡ nextIn message k ⌝ }
 {
@@ -50,6 +50,10 @@ fn has_next(message: Outgoing, k: u16) -> bool
             let count = cut::blocks_in(length as usize);
             (k as usize) < count
         }
+        Outgoing::Report {
+            function: _,
+            number: _,
+        } => false,
     }
 }
 

@@ -18,7 +18,7 @@ use Rattle.line.specs.declared.step.Step.{Step}
 use Rattle.line.specs.declared.step.Told.{Told}
 use Rattle.line.specs.declared.step.Told.the-variants as told
 use Rattle.exchange.specs.History as exchange
-use Rattle.exchange.proofs.Runs.{Each, none, one-more}
+use Rattle.exchange.proofs.Runs.{Each, none, one-more, each-more}
 use Rattle.link.specs.Run.{hasNext}
 use Rattle.link.specs.History.{Call, byte, tick, drained, request, Made, stepIn, toldOn, itself, onExchange, Track, lineTrack, limitsIn}
 use Rattle.link.specs.Inside.{Reached}
@@ -30,10 +30,6 @@ use Rattle.link.proofs.inside.Reached.{line-inside}
 use Rattle.link.proofs.Accepted.{by-outcome, accepted-calls}
 
 -- ---- lists of calls
-
-each-more : (K : exchange.Call → Type 0) (ks js : List exchange.Call) → Each K ks → Each K js → Each K (ks ++ js)
-each-more K [] js none w = w
-each-more K (k ∷ ks) js (one-more i is) w = one-more i (each-more K ks js is w)
 
 -- what holds of each holds of one of them
 pub each-among : (K : exchange.Call → Type 0) (ks : List exchange.Call) → Each K ks → (k : exchange.Call) → Among k ks → K k

@@ -19,6 +19,7 @@ use Rattle.line.specs.declared.step.Told.{Told}
 use Rattle.line.specs.declared.step.Told.the-variants as told
 use Rattle.line.specs.declared.step.Step.{Step}
 use Rattle.line.specs.declared.line.Line.{Line}
+use Rattle.exchange.specs.Reports.{sameMessage}
 use Rattle.exchange.specs.Request.{Request, lends, isSending}
 use Rattle.exchange.specs.declared.Asked.the-variants as asked
 use Rattle.link.specs.Courier.{courierBy}
@@ -59,11 +60,12 @@ module _ (c : Limits) (rs block : List ℕ) where
 
   -- the courier itself puts nothing out
   courier-bytes :
-      (before after : Bool) (t : Told) (l : Line) (k : ℕ)
-      → lineBytes c l rs block (settling (couriers before after t)) ≡ bytesOut [] (settleOf (courierBy before after t l k .line) .out)
+      (same before after : Bool) (t : Told) (l : Line) (k : ℕ)
+      → lineBytes c l rs block (settling (couriers same before after t)) ≡ bytesOut [] (settleOf (courierBy same before after t l k .line) .out)
   unfolding lineBytes
-  courier-bytes before after t l k =
-      by-courier (λ ks m. lineBytes c l rs block (settling ks) ≡ bytesOut [] (settleOf m .out)) l k (last l) (last (askOf l)) (last (withdrawOf l)) before after t
+  courier-bytes same before after t l k =
+      by-courier (λ ks m. lineBytes c l rs block (settling ks) ≡ bytesOut [] (settleOf m .out)) l k (last l) (last (askOf l)) (last (withdrawOf l))
+      same before after t
 
 -- ---- a call
 
@@ -76,10 +78,13 @@ front-left bs o = take-at bs (drop (length bs) o) (length bs) refl
 course-bytes :
     (c : Limits) (rs block : List ℕ) (u : Link) (p : Out) (t : Told) (m : Midway) (k : Outcome) (room o : List ℕ)
     → bytesLeft (course u p t m k room o)
-    ≡ bytesOut [] p ++ lineBytes c (u .line) rs block (settling (couriers (isSending (u .exchange)) (isSending (m .exchange)) t))
+    ≡ bytesOut [] p
+    ++ lineBytes c (u .line) rs block
+    (settling (couriers (sameMessage (u .exchange .sending) (m .exchange .sending)) (isSending (u .exchange)) (isSending (m .exchange)) t))
 course-bytes c rs block u p t m k room o =
     front-left (codes p (settleOf (carriedBy u t (m .exchange) room .line) .out)) o
-    ∙ ap (λ bs. bytesOut [] p ++ bs) (sym (courier-bytes c rs block (isSending (u .exchange)) (isSending (m .exchange)) t (u .line) (u .block)))
+    ∙ ap (λ bs. bytesOut [] p ++ bs)
+    (sym (courier-bytes c rs block (sameMessage (u .exchange .sending) (m .exchange .sending)) (isSending (u .exchange)) (isSending (m .exchange)) t (u .line) (u .block)))
 
 module _ (u : Link) (room o : List ℕ) where
   abbrev block : List ℕ
@@ -97,7 +102,8 @@ module _ (u : Link) (room o : List ℕ) where
     after = passing ticks (u .settings .terms) (heardBy u made room .midway)
 
     abbrev behind : List line.Call
-    behind = settling (couriers (isSending (u .exchange)) (isSending (after .exchange)) (made .step .told))
+    behind =
+        settling (couriers (sameMessage (u .exchange .sending) (after .exchange .sending)) (isSending (u .exchange)) (isSending (after .exchange)) (made .step .told))
 
     step-bytes : NoBlock block (made .step) → Put (k ∷ behind) (stepped ticks u made room o)
     unfolding lineBytes

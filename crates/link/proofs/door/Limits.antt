@@ -2,7 +2,7 @@
 use Prim.Native.Nat.{ℕ, _+_, _≤_}
 use mathlib.Core.Path.{_≡_, refl, sym, ap, subst, _∙_}
 use mathlib.Core.List.{List, [], _∷_, _++_, append-nil}
-use mathlib.Core.Bool.{Bool, true, false≢true}
+use mathlib.Core.Bool.{Bool, true, false, or-true, false≢true}
 use mathlib.Core.Logic.{_⊎_, inl, inr}
 use native.Mathlib.Omega.{arith}
 use lib.ListN.{length}
@@ -10,7 +10,7 @@ use Rattle.settings.specs.declared.limits.Limits.{Limits}
 use Rattle.line.specs.Codes.{ENQ, EOT, ACK, NAK, bytesOut}
 use Rattle.line.specs.Line.{lineAt, busy}
 use Rattle.line.specs.History as line
-use Rattle.line.specs.History.{none, oursAt, theirsAt}
+use Rattle.line.specs.History.{Ours, none, oursAt, theirsAt}
 use Rattle.line.specs.Theorems.{Counts}
 use Rattle.line.proofs.Invariant.{At}
 use Rattle.line.proofs.Always.{always}
@@ -26,7 +26,7 @@ use Rattle.link.specs.Run.{blockBytes}
 use Rattle.link.specs.Reading.{sendingOf}
 use Rattle.link.specs.History.{byte, unlessRefused, stepIn, settles, couriersIn, onLine, Track, lineTrack, limitsIn, lentRoom, Made, answered, next}
 use Rattle.link.specs.Inside.{Reached}
-use Rattle.link.specs.Door.{lineBytes, onWay, kind, watches, Watch, watchOf, AtDoor, SendWithin, SendEnds, TriesAreEnqs, made, EachEnqItsBlock, NoneForgotten, ReceiveWithin, ReceiveEnds, followed, OverBy, ReceiveEndsBy, HeldFollows, SendEndsBy}
+use Rattle.link.specs.Door.{bytesLeft, lineBytes, onWay, kind, isFirst, begins, sees, seesBy, otherSent, watchedOn, Watch, watchOf, AtDoor, SendWithin, SendEnds, TriesAreEnqs, made, EachEnqItsBlock, NoneForgotten, ReceiveWithin, ReceiveEnds, followed, OverBy, ReceiveEndsBy, HeldFollows, startsEnq, Stops, sent, failed, gave-way, SendEndsBy, OtherStartsAnew}
 use Rattle.link.specs.declared.Settings.{Settings}
 use Rattle.link.specs.declared.Outcome.{Outcome}
 use Rattle.link.specs.declared.Outcome.the-variants as outcome
@@ -34,7 +34,7 @@ use Rattle.link.proofs.inside.Reached.{settings-stay, line-inside}
 use Rattle.link.proofs.inside.Agrees.{agrees}
 use Rattle.link.proofs.door.Bytes.{called-bytes}
 use Rattle.link.proofs.door.OneCall.{Calm}
-use Rattle.link.proofs.door.Right.{one-call, settled, door-right}
+use Rattle.link.proofs.door.Right.{unlessOther, otherIn, called-other, one-call, settled, door-right}
 
 -- the limits of the start are those of the unit
 limits-stay : (t : Track) (w : Reached t) → limitsIn t ≡ w .settings .limits
@@ -127,8 +127,8 @@ door-receive-ends t w a =
 -- ---- one call more
 
 -- what is seen of it
-seen-next : (t : Track) (w : Watch) → AtDoor t w → (m : Made) → watches w (m .call) (answered t m) ≡ watchOf (next t m .seen)
-seen-next t w a m = let r = a .reached in ap (λ v. watches v (m .call) (answered t m)) (door-right t w a) ∙ one-call t r (settled t r) m .0
+seen-next : (t : Track) (w : Watch) → AtDoor t w → (m : Made) → watchedOn w t m ≡ watchOf (next t m .seen)
+seen-next t w a m = let r = a .reached in ap (λ v. watchedOn v t m) (door-right t w a) ∙ one-call t r (settled t r) m .0
 
 pub receive-ends-by : ReceiveEndsBy
 receive-ends-by t w a m z =
@@ -148,9 +148,48 @@ with-enq c line.withdraw bs sending after is e = absurd is
 pub held-follows : HeldFollows
 held-follows t w a m z e = with-enq _ (kind (m .call)) _ _ _ (receive-ends-by t w a m z) e
 
+-- a send is over alike
+over-alike : (v w : Watch) (other : Bool) → v ≡ w → (onWay (v .ours) ≡ false) ⊎ (other ≡ true) → (onWay (w .ours) ≡ false) ⊎ (other ≡ true)
+over-alike v w other e (inl gone) = inl (sym (ap (λ (x : Watch). onWay (x .ours)) e) ∙ gone)
+over-alike v w other e (inr o) = inr o
+
 pub door-send-ends-by : SendEndsBy
 door-send-ends-by t w a m on gone =
     let r = a .reached in
-    let going : (v v' : Watch) (b : Bool) → v ≡ v' → onWay (v .ours) ≡ b → onWay (v' .ours) ≡ b = λ v v' b e is. sym (ap (λ (x : Watch). onWay (x .ours)) e) ∙ is in
-    rw (seen-next t w a m, ← limits-stay t r, door-right t w a)
-    (one-call t r (settled t r) m .3 (going _ _ _ (door-right t w a) on) (going _ _ _ (seen-next t w a m) gone))
+    rw (← limits-stay t r, door-right t w a)
+    (one-call t r (settled t r) m .3 (sym (ap (λ (x : Watch). onWay (x .ours)) (door-right t w a)) ∙ on)
+    (over-alike (watchedOn w t m) (watchOf (next t m .seen)) (otherSent (t .link) (answered t m)) (seen-next t w a m) gone))
+
+-- ---- a report that follows
+
+-- the ENQ of another message is its first
+first-enq : (o : Ours) (k : line.Call) (bs : List ℕ) → bs ≡ ENQ ∷ [] → begins o k bs true ≡ true
+first-enq o k bs is = rw is (or-true (isFirst o k))
+
+abbrev Anew : Watch → Type 0
+Anew w = (w .waited ≡ 0) × (w .enqs ≡ 1)
+
+seen-anew : (w : Watch) (k : line.Call) (bs : List ℕ) (sending : Bool) → bs ≡ ENQ ∷ [] → Anew (sees w k bs sending true)
+seen-anew w k bs sending is = rw (first-enq (w .ours) k bs is) (refl, refl)
+
+-- what stops while another message is being sent has put it out
+stops-anew :
+    (c : Limits) (w : Watch) (k : line.Call) (bs : List ℕ) (sending other : Bool) → Stops c w k bs sending other → other ≡ true → sending ≡ true → bs ≡ ENQ ∷ []
+stops-anew c w k bs sending other (sent l e is o) i s = is ∙ ap startsEnq s
+stops-anew c w k bs sending other (failed n is o) i s = is ∙ ap startsEnq s
+stops-anew c w k bs sending other (gave-way m l e is z o) i s = absurd (false≢true (sym o ∙ i))
+
+-- and the call was not refused
+anew-by : (x : Outcome) (w : Watch) (k : line.Call) (bs : List ℕ) (sending other i : Bool) → other ≡ unlessOther x i → other ≡ true → bs ≡ ENQ ∷ []
+    → Anew (seesBy x w k bs sending other)
+anew-by outcome.Done w k bs sending other i e o is = rw o (seen-anew w k bs sending is)
+anew-by (outcome.Taken p) w k bs sending other i e o is = rw o (seen-anew w k bs sending is)
+anew-by (outcome.Refused r) w k bs sending other i e o is = absurd (false≢true (sym e ∙ o))
+
+pub other-starts-anew : OtherStartsAnew
+other-starts-anew t w a m on other s =
+    let room = lentRoom (m .room) (t .room) in
+    anew-by (answered t m .answer .outcome) w (kind (m .call)) (bytesLeft (answered t m)) (sendingOf (next t m .link)) (otherSent (t .link) (answered t m))
+    (otherIn (t .link) room (m .call)) (called-other (t .link) room (m .out) (m .call)) other
+    (stops-anew (a .reached .settings .limits) w (kind (m .call)) (bytesLeft (answered t m)) (sendingOf (next t m .link)) (otherSent (t .link) (answered t m))
+    (door-send-ends-by t w a m on (inr other)) other s)

@@ -21,7 +21,7 @@ use Rattle.place.specs.declared.IncomingStage.the-variants as arrival
 use Rattle.exchange.specs.Exchange.{ownPlace, incomingPlace}
 use Rattle.link.specs.History.{Made, Track, lineTrack, limitsIn, termsIn, answered, next, track}
 use Rattle.link.specs.Inside.{Reached}
-use Rattle.link.specs.Door.{bytesLeft, kind, Watch, nothingWatched, watches, watchOf, triedBy, tried, SendTimer, ReceiveTimer, OwnTimer, IncomingTimer, TicksCounted}
+use Rattle.link.specs.Door.{bytesLeft, kind, Watch, nothingWatched, watchedOn, watchOf, triedBy, tried, SendTimer, ReceiveTimer, OwnTimer, IncomingTimer, TicksCounted}
 use Rattle.link.proofs.inside.Reached.{reached-next, start, reached-start, line-inside}
 use Rattle.link.proofs.inside.Places.{places-inside}
 use Rattle.link.proofs.door.Right.{one-call, settled, door-right}
@@ -58,7 +58,7 @@ unfolding tried track
 all-tried t r [] w e n g = g
 all-tried t r (m ∷ ms) w e n g =
     let one = one-call t r (settled t r) m in
-    all-tried (next t m) (reached-next t r m) ms _ (ap (λ v. watches v (m .call) (answered t m)) e ∙ one .0) _
+    all-tried (next t m) (reached-next t r m) ms _ (ap (λ v. watchedOn v t m) e ∙ one .0) _
     (subst (λ (v : Watch). SendTimer (next t m .link .line .phase) (triedBy (answered t m .answer .outcome) (v .ours) n (kind (m .call)) (bytesLeft (answered t m)))) (sym e)
     (one .4 n g))
 

@@ -8,18 +8,21 @@ use Rattle.settings.specs.declared.limits.Limits.{Limits}
 use Rattle.line.specs.Line.{busy}
 use Rattle.line.specs.History as line
 use Rattle.line.specs.History.{oursAt, theirsAt, Seen}
-use Rattle.line.specs.Theorems.{IsBlock}
+use Rattle.line.specs.Theorems.{IsBlock, BusySteps}
 use Rattle.line.proofs.Invariant.{Good}
 use Rattle.line.proofs.Always.{always}
 use Rattle.line.proofs.Busy.{busy-turns}
 use Rattle.line.proofs.Sending.{tries-are-enqs}
 use Rattle.line.specs.declared.phase.Phase.{Phase}
+use Rattle.line.specs.declared.step.Told.{Told}
+use Rattle.line.specs.declared.step.Told.the-variants as told
 use Rattle.exchange.specs.Request.{Request, lends}
 use Rattle.exchange.specs.declared.Asked.the-variants as asked
 use Rattle.exchange.proofs.BeingSent.{request-sends}
+use Rattle.exchange.proofs.Same.{message-same}
 use Rattle.link.specs.Answer.{accepted}
-use Rattle.link.specs.Run.{blockBytes}
-use Rattle.link.specs.Reading.{sendingOf}
+use Rattle.link.specs.Run.{blockBytes, hears, hearing}
+use Rattle.link.specs.Reading.{sendingOf, messageOf}
 use Rattle.link.specs.History.{Call, byte, tick, drained, request, Room, stepIn, settling, settles, onLine, cameTo, lentRoom, Track, lineTrack, limitsIn, termsIn, Made, answered, next, track}
 use Rattle.link.specs.Inside.{Reached}
 use Rattle.link.specs.Door.{bytesLeft, lineBytes, SendTimer, watchOf, Watch, AtDoor, made}
@@ -30,9 +33,10 @@ use Rattle.link.proofs.Cases.{by-request, answering}
 use Rattle.link.proofs.inside.Line.{line-goes}
 use Rattle.link.proofs.inside.Reached.{reached-next, line-inside}
 use Rattle.link.proofs.inside.Courier.{clash, none-under-way}
+use Rattle.link.proofs.inside.Places.{sound-inside, numbered-inside}
 use Rattle.link.proofs.inside.Agrees.{agrees}
 use Rattle.link.proofs.door.Bytes.{called-bytes}
-use Rattle.link.proofs.door.Courier.{calledFor, sentOn, byte-calls, tick-calls, drained-calls, lent-calls, free-calls}
+use Rattle.link.proofs.door.Courier.{going, fateOf, calledFor, fate, fateIn, byte-calls, tick-calls, tick-may, drained-calls, lent-calls, free-calls}
 use Rattle.link.proofs.door.Right.{settled}
 use Rattle.link.proofs.door.Ticks.{ticks-counted}
 use Rattle.link.proofs.door.Limits.{from-line, unrefused}
@@ -81,7 +85,7 @@ module _ (t : Track) (r : Reached t) (lent : Room) (o : List ℕ) where
   seen-at P g = subst (λ x. P x (s .theirs)) (sym (good .ours)) (subst (P (oursAt phase)) (sym (good .theirs)) g)
 
   -- a block goes up exactly if it came whole
-  rises : (b : ℕ) (fits : b < 256) → Taken (byte b fits) → Rises c block s b fits (sentOn u room (byte b fits)) (u .line .held) (u .received) (s .bytes) phase
+  rises : (b : ℕ) (fits : b < 256) → Taken (byte b fits) → Rises c block s b fits (fateIn u room (byte b fits)) (u .line .held) (u .received) (s .bytes) phase
   rises b fits ok =
       let m = made (byte b fits) lent o in (
         λ th n body k. up-exactly t r m n .1 (body, record { accepted = ok; receiving = good .theirs ∙ th; last = b; came = eq-eqb b b refl; whole = k }) .told,
@@ -103,21 +107,40 @@ module _ (t : Track) (r : Reached t) (lent : Room) (o : List ℕ) where
   unfolding lineBytes
   spared q l since = subst (λ x. MessageGets x (s .theirs) []) (sym l) refl
 
+  -- of a byte of which nothing is told the transactions know nothing
+  quiet : (b : ℕ) (fits : b < 256) → stepIn u (byte b fits) .step .told ≡ told.Nothing → fateIn u room (byte b fits) ≡ going
+  quiet b fits e =
+      let h = stepIn u (byte b fits) in
+      ap (λ (z : Told). fate (messageOf u) (hearing z (h .step .remark) (hears u h) room .midway .exchange .sending)) e
+      ∙ ap (λ same. fateOf same (sendingOf u)) (message-same (messageOf u) (messageOf u) refl)
+
+  abbrev turns : BusySteps c (u .line)
+  turns = busy-turns c (lineTrack t) (line-inside t r)
+
   got : (since : ℕ) → SendTimer phase since → (k : Call) → Taken k → Got since k (onLine u room k)
   got since i (byte b fits) ok =
       let h = stepIn u (byte b fits) in
-      let ks = line.byte b fits ∷ settles (h .step .out) (calledFor (h .step .told) (sentOn u room (byte b fits))) in
-      subst (Got since (byte b fits)) (sym (byte-calls u room (agrees t r .same) (busy-turns c (lineTrack t) (line-inside t r)) b fits))
+      let f = fateIn u room (byte b fits) in
+      let ks = line.byte b fits ∷ settles (h .step .out) (calledFor f (h .step .told)) in
+      let sound = sound-inside t r in
+      let numbered = numbered-inside t r in
+      let same = agrees t r .same in
+      subst (Got since (byte b fits)) (sym (byte-calls u room sound numbered same turns b fits))
       (seen-at (λ x y. ByteGets c x y (s .enqs) (s .bytes) b (put ks) (then ks))
-      (byte-gets c block s b fits (sentOn u room (byte b fits)) (u .line .held) (u .received) (s .enqs) (s .bytes) phase (settled t r) (tries-are-enqs c (lineTrack t) (line-inside t r))
-      (rises b fits ok)))
+      (byte-gets c block s b fits f (u .line .held) (u .received) (s .enqs) (s .bytes) phase (settled t r) (tries-are-enqs c (lineTrack t) (line-inside t r))
+      (rises b fits ok) (quiet b fits)))
   got since i tick ok =
-      let ks = line.tick ∷ settling (calledFor (stepIn u tick .step .told) (sentOn u room tick)) in
-      subst (Got since tick) (sym (tick-calls u room (agrees t r .same) (busy-turns c (lineTrack t) (line-inside t r))))
+      let f = fateIn u room tick in
+      let ks = line.tick ∷ settling (calledFor f (stepIn u tick .step .told)) in
+      let sound = sound-inside t r in
+      let numbered = numbered-inside t r in
+      let same = agrees t r .same in
+      subst (Got since tick) (sym (tick-calls u room sound numbered same turns))
       (seen-at (λ x y. TickGets c x y (s .enqs) since (s .bytes) (s .silent) (put ks) (then ks))
-      (tick-gets c block s (sentOn u room tick) (u .line .held) (u .received) (s .enqs) since (s .bytes) (s .silent) phase (settled t r)
+      (tick-gets c block s f (u .line .held) (u .received) (s .enqs) since (s .bytes) (s .silent) phase (settled t r)
       (tries-are-enqs c (lineTrack t) (line-inside t r)) i
-      (heeds c phase (s .waited) (s .enqs) (s .took) (s .silent) (u .received) (s .bytes) (good .counts) (good .bytes))))
+      (heeds c phase (s .waited) (s .enqs) (s .took) (s .silent) (u .received) (s .bytes) (good .counts) (good .bytes))
+      (tick-may u room sound numbered same turns)))
   got since i drained ok = subst (Got since drained) (sym (drained-calls u room)) (drained-gets c block s (u .line .held) phase (u .received) (settled t r))
   got since i (request q) ok =
       by-request u q room o (λ l. accepted (l .answer .outcome) ≡ true → Got since (request q) (onLine u room (request q))) (λ n e no. clash no)

@@ -6,6 +6,7 @@ use Rattle.wire.proofs.Choice.{chosen}
 use Rattle.line.specs.History as line
 use Rattle.line.specs.declared.step.Out.{Out}
 use Rattle.line.specs.declared.step.Out.the-variants as out
+use Rattle.exchange.specs.Reports.{sameMessage}
 use Rattle.exchange.specs.Request.{lends, isSending}
 use Rattle.link.specs.Answer.{accepted}
 use Rattle.link.specs.History.{Call, byte, tick, drained, request, unlessRefused, stepIn, exchangeIn, settling, settles, couriersIn, onLine, cameTo}
@@ -21,7 +22,7 @@ module _ (u : Link) (room : List ℕ) where
   couriers-behind k =
       by-courier (λ ks l. Behind (settling ks)) (u .line) (u .block) (one-more line.settle refl no-more)
       (one-more line.ask refl (one-more line.settle refl no-more)) (one-more line.withdraw refl (one-more line.settle refl no-more))
-      (isSending (u .exchange)) (isSending (exchangeIn u room k)) (stepIn u k .step .told)
+      (sameMessage (u .exchange .sending) (exchangeIn u room k .sending)) (isSending (u .exchange)) (isSending (exchangeIn u room k)) (stepIn u k .step .told)
 
   settles-behind : (p : Out) (ks : List line.Call) → Behind (settling ks) → Behind (settles p ks)
   settles-behind out.Nothing ks b = b

@@ -1,5 +1,5 @@
 -- A NAK is noted with its reason, and nothing else with one (`specs/Hearing.antt`). Assumes nothing.
-use Prim.Native.Nat.{ℕ, _≤_}
+use Prim.Native.Nat.{ℕ, _+_, _≤_}
 use mathlib.Core.Path.{_≡_, refl, sym, ap, subst, _∙_}
 use mathlib.Core.Bool.{Bool, true, false}
 use mathlib.Core.List.{List, [], _∷_, _++_}
@@ -8,7 +8,7 @@ use native.Mathlib.Omega.{arith}
 use lib.Dec.{eqb}
 use Rattle.settings.specs.declared.limits.Limits.{Limits}
 use Rattle.line.specs.Codes.{NAK, bytesOut, noteOf}
-use Rattle.line.specs.Line.{heard, lineAt, busy, tickOf, settleIdle, naks}
+use Rattle.line.specs.Line.{heard, lineAt, busy, tickOf, holding, settleIdle, stays, goes, fails, again, naks}
 use Rattle.line.specs.History as line
 use Rattle.line.specs.History.{Seen, leaves, track, puts}
 use Rattle.line.specs.Theorems.{NakFor, no-length, gap, bad-length, bad-sum}
@@ -18,6 +18,9 @@ use Rattle.line.proofs.Receiving.{nak-in-time, nak-reasons}
 use Rattle.line.specs.declared.phase.Phase.{Phase}
 use Rattle.line.specs.declared.phase.Phase.the-variants.{Idle, WaitEot, Draining, WaitAck, WaitLength, Body, Silence}
 use Rattle.line.specs.declared.step.Step.{Step}
+use Rattle.line.specs.declared.step.Out.the-variants as out
+use Rattle.line.specs.declared.step.Told.{Told}
+use Rattle.line.specs.declared.step.Told.the-variants as told
 use Rattle.line.specs.declared.step.Remark.{Remark}
 use Rattle.line.specs.declared.step.Remark.the-variants as remark
 use Rattle.exchange.specs.Request.{lends}
@@ -33,14 +36,15 @@ use Rattle.link.proofs.Table.{of-line}
 use Rattle.link.proofs.inside.Reached.{line-inside}
 use Rattle.link.proofs.inside.Courier.{clash}
 use Rattle.link.proofs.inside.Agrees.{agrees}
-use Rattle.link.proofs.inside.Places.{lent}
-use Rattle.link.proofs.door.Courier.{calledFor, sentOn, tick-calls}
+use Rattle.link.proofs.inside.Places.{lent, sound-inside, numbered-inside}
+use Rattle.link.proofs.door.Courier.{Fate, going, begun, ended, calledFor, May, fateIn, tick-calls, tick-may}
 use Rattle.link.proofs.door.OneCall.{Calm}
 use Rattle.link.proofs.door.Right.{settled, door-right}
 use Rattle.link.proofs.door.Limits.{receive-ends-by}
 use Rattle.link.proofs.device.Told.{told-exactly}
 use Rattle.link.proofs.device.Remarks.{up-unremarked}
 use Rattle.link.proofs.moves.Notes.{to-27, up-noted, remarked}
+use Rattle.link.proofs.hearing.Steps.{on-fate, naks-leave}
 use Rattle.link.proofs.hearing.Calls.{at-door, each-call-gets}
 
 -- NAK goes before all
@@ -50,39 +54,67 @@ led (a ∷ bs) = eqb a NAK
 
 -- ---- a tick
 
-module _ (c : Limits) (block : List ℕ) (s : Seen) (more : Bool) where
-  abbrev restOf : Step → List line.Call
-  restOf z = settling (calledFor (z .told) more)
+-- the step puts NAK out, and that leaves; or it does not, and no NAK leaves
+abbrev Either : Bool → List ℕ → Bool → Type 0
+Either nak bs sending = ((nak ≡ true) × (bs ≡ followed NAK sending)) ⊎ ((nak ≡ false) × (led bs ≡ false))
 
-  -- the step puts NAK out, and that leaves; or it does not, and no NAK leaves
-  abbrev Either : Bool → List ℕ → Bool → Type 0
-  Either nak bs sending = ((nak ≡ true) × (bs ≡ followed NAK sending)) ⊎ ((nak ≡ false) × (led bs ≡ false))
+module _ (c : Limits) (block : List ℕ) (s : Seen) where
+  -- whatever becomes of what is being sent, as far as it may
+  abbrev Shown : List ℕ → Step → Fate → Type 0
+  Shown rs z f =
+      let ks = settling (calledFor f (z .told)) in
+      Either (puts NAK (z .out)) (bytesOut block (z .out) ++ lineBytes c (z .line) rs block ks) (busy (track c (leaves s line.tick (heard z rs)) ks .line))
 
-  abbrev Shows : Step → Type 0
-  Shows z =
-      (rs : List ℕ)
-      → Either (puts NAK (z .out)) (bytesOut block (z .out) ++ lineBytes c (z .line) rs block (restOf z)) (busy (track c (leaves s line.tick (heard z rs)) (restOf z) .line))
+  abbrev Shows : Bool → Fate → Step → Type 0
+  Shows before f z = (rs : List ℕ) → May (z .told) before f → Shown rs z f
 
-  naks-show : (h : Bool) (p : Phase) (why : Remark) → Shows (naks (lineAt h p) why)
-  unfolding settleIdle track lineBytes
-  naks-show true p why rs = inl (refl, refl)
-  naks-show false p why rs = inl (refl, refl)
+  naks-show : (before : Bool) (f : Fate) (h : Bool) (p : Phase) (why : Remark) → Shows before f (naks (lineAt h p) why)
+  naks-show before f h p why rs m = inl (refl, naks-leave c block s f before h p why rs m)
 
-  tick-shows : (h : Bool) (p : Phase) → Calm p h → ByTick Shows c h p
-  unfolding settleIdle track lineBytes
-  tick-shows h Idle f = λ rs. rw f (inr (refl, refl))
-  tick-shows h (WaitEot timer tries) f = (λ rs. inr (refl, refl), λ rs. inr (refl, refl), λ rs. inr (refl, refl))
-  tick-shows h (Draining tries) f = λ rs. inr (refl, refl)
-  tick-shows h (WaitAck timer tries) f = (λ rs. inr (refl, refl), λ rs. inr (refl, refl), λ rs. inr (refl, refl))
-  tick-shows h (WaitLength timer) f = (naks-show h (WaitLength timer) remark.NoLength, λ rs. inr (refl, refl))
-  tick-shows h (Body timer a) f = (naks-show h (Body timer a) remark.Gap, λ rs. inr (refl, refl))
-  tick-shows h (Silence timer fault) f = (naks-show h (Silence timer fault) (remark.Bad fault), λ rs. inr (refl, refl))
+  fails-show : (before : Bool) (f : Fate) (h : Bool) (p : Phase) → Shows before f (fails (lineAt h p))
+  unfolding settleIdle holding track lineBytes
+  fails-show before going h p rs m = absurd m
+  fails-show before begun h p rs m = inr (refl, refl)
+  fails-show before ended h p rs m = inr (refl, refl)
 
-  shown : (h : Bool) (p : Phase) (rs : List ℕ) → Calm p h
-      → (let ks = line.tick ∷ restOf (tickOf c (lineAt h p)) in
+  -- where nothing is told
+  goes-show : (before : Bool) (f : Fate) (z : Step) → z .told ≡ told.Nothing → ((rs : List ℕ) → Shown rs z going × Shown rs z begun) → Shows before f z
+  goes-show before f z e w rs m = on-fate (Shown rs z) before (w rs .0) (w rs .1) f (subst (λ (t : Told). May t before f) e m)
+
+  tick-shows : (f : Fate) (h : Bool) (p : Phase) → Calm p h → ByTick (Shows (busy (lineAt h p)) f) c h p
+  unfolding settleIdle holding track lineBytes
+  tick-shows f h Idle d = goes-show _ f (stays (lineAt h Idle)) refl (λ rs. (rw d (inr (refl, refl)), inr (refl, refl)))
+  tick-shows f h (WaitEot timer tries) d =
+      let l = lineAt h (WaitEot timer tries) in (
+        fails-show true f h (WaitEot timer tries),
+        goes-show true f (again l tries) refl (λ rs. (inr (refl, refl), inr (refl, refl))),
+        goes-show true f (goes l (WaitEot (timer + 1) tries) out.Nothing) refl (λ rs. (inr (refl, refl), inr (refl, refl))),
+      )
+  tick-shows f h (Draining tries) d = goes-show true f (stays (lineAt h (Draining tries))) refl (λ rs. (inr (refl, refl), inr (refl, refl)))
+  tick-shows f h (WaitAck timer tries) d =
+      let l = lineAt h (WaitAck timer tries) in (
+        fails-show true f h (WaitAck timer tries),
+        goes-show true f (again l tries) refl (λ rs. (inr (refl, refl), inr (refl, refl))),
+        goes-show true f (goes l (WaitAck (timer + 1) tries) out.Nothing) refl (λ rs. (inr (refl, refl), inr (refl, refl))),
+      )
+  tick-shows f h (WaitLength timer) d = (
+    naks-show _ f h (WaitLength timer) remark.NoLength,
+    goes-show _ f (goes (lineAt h (WaitLength timer)) (WaitLength (timer + 1)) out.Nothing) refl (λ rs. (inr (refl, refl), inr (refl, refl))),
+  )
+  tick-shows f h (Body timer a) d = (
+    naks-show _ f h (Body timer a) remark.Gap,
+    goes-show _ f (goes (lineAt h (Body timer a)) (Body (timer + 1) a) out.Nothing) refl (λ rs. (inr (refl, refl), inr (refl, refl))),
+  )
+  tick-shows f h (Silence timer fault) d = (
+    naks-show _ f h (Silence timer fault) (remark.Bad fault),
+    goes-show _ f (goes (lineAt h (Silence timer fault)) (Silence (timer + 1) fault) out.Nothing) refl (λ rs. (inr (refl, refl), inr (refl, refl))),
+  )
+
+  shown : (f : Fate) (h : Bool) (p : Phase) (rs : List ℕ) → Calm p h → May (tickOf c (lineAt h p) .told) (busy (lineAt h p)) f
+      → (let ks = line.tick ∷ settling (calledFor f (tickOf c (lineAt h p) .told)) in
       Either (puts NAK (tickOf c (lineAt h p) .out)) (lineBytes c (lineAt h p) rs block ks) (busy (track c (record { line = lineAt h p; received = rs; seen = s }) ks .line)))
   unfolding track lineBytes
-  shown h p rs f = by-tick Shows c h p (tick-shows h p f) rs
+  shown f h p rs d = by-tick (Shows (busy (lineAt h p)) f) c h p (tick-shows f h p d) rs
 
 -- ---- any accepted call
 
@@ -122,12 +154,15 @@ module _ (t : Track) (w : Watch) (a : AtDoor t w) where
       let room = lentRoom lend (t .room) in
       let block = blockBytes (t .link) room in
       let l = t .link .line in
-      let here : Either c block (t .seen) (sentOn (t .link) room tick) (nak tick) (bytesLeft (answered t m)) (sendingOf (next t m .link)) =
-      at-door t r m ok (Either c block (t .seen) (sentOn (t .link) room tick) (nak tick))
-      (subst
-      (λ ks. Either c block (t .seen) (sentOn (t .link) room tick) (nak tick) (lineBytes c l (t .link .received) block ks) (busy (track c (lineTrack t) ks .line)))
-      (sym (tick-calls (t .link) room (agrees t r .same) (busy-turns c (lineTrack t) (line-inside t r))))
-      (shown c block (t .seen) (sentOn (t .link) room tick) (l .held) (l .phase) (t .link .received) (settled t r))) in
+      let turns = busy-turns c (lineTrack t) (line-inside t r) in
+      let sound = sound-inside t r in
+      let numbered = numbered-inside t r in
+      let here : Either (nak tick) (bytesLeft (answered t m)) (sendingOf (next t m .link)) =
+      at-door t r m ok (Either (nak tick))
+      (subst (λ ks. Either (nak tick) (lineBytes c l (t .link .received) block ks) (busy (track c (lineTrack t) ks .line)))
+      (sym (tick-calls (t .link) room sound numbered (agrees t r .same) turns))
+      (shown c block (t .seen) (fateIn (t .link) room tick) (l .held) (l .phase) (t .link .received) (settled t r)
+      (tick-may (t .link) room sound numbered (agrees t r .same) turns))) in
       ⊎-elim (λ y. (λ q. y .0, λ q. absurd (q (y .1)))) (λ y. none-leaves m (y .0) (y .1)) here
   exactly drained lend o ok = none-leaves (made drained lend o) refl (ap led (each-call-gets t w a (made drained lend o) ok))
   exactly (request r) lend o ok =

@@ -4,7 +4,7 @@ use Prim.Native.Nat.{ℕ}
 use mathlib.Core.Path.{_≡_, refl, sym, ap, subst, _∙_}
 use mathlib.Core.Bool.{Bool, true, false, cond, false≢true, _||_}
 use mathlib.Core.List.{List, [], _∷_}
-use mathlib.Core.Logic.{_⊎_, _≢_, ⊎-elim}
+use mathlib.Core.Logic.{_⊎_, inl, inr, _≢_}
 use Rattle.wire.proofs.Choice.{either}
 use Rattle.wire.specs.Bytes.{part}
 use Rattle.header.specs.Header.{firstTen}
@@ -19,11 +19,17 @@ use Rattle.line.specs.declared.step.Told.{Told}
 use Rattle.line.specs.declared.step.Told.the-variants as told
 use Rattle.line.specs.declared.step.Remark.{Remark}
 use Rattle.line.proofs.Busy.{busy-still}
-use Rattle.exchange.specs.Exchange.{sentFrom}
 use Rattle.exchange.specs.Request.{sendingBy, isSending}
-use Rattle.exchange.specs.Judge.{judgeOf}
-use Rattle.exchange.specs.BeingSent.{Withdrawn}
+use Rattle.exchange.specs.Reports.{sameMessage}
+use Rattle.exchange.specs.History as exchange
+use Rattle.exchange.specs.BeingSent.{NoneOrReport, Withdrawn, ReportBegins}
+use Rattle.exchange.proofs.Unreported.{some-sent}
+use Rattle.exchange.proofs.Boxes.{sent-busy}
 use Rattle.exchange.proofs.BeingSent.{sending-ends}
+use Rattle.exchange.proofs.Same.{message-same, other-message, message-other}
+use Rattle.exchange.proofs.Runs.{Sound, four-places, sound-on}
+use Rattle.exchange.proofs.Numbering.{Moves, call-moves}
+use Rattle.exchange.proofs.Another.{Numbered, acknowledged-other, failed-other, withdrawn-other, none-given, none-given-on, other-still}
 use Rattle.exchange.specs.declared.Sending.{Sending}
 use Rattle.exchange.specs.declared.Sending.the-variants as sending
 use Rattle.exchange.specs.declared.Exchange.{Exchange}
@@ -43,15 +49,16 @@ clash e = absurd (false≢true e)
 -- holds.
 pub by-courier :
     (P : List line.Call → Line → Type 0) (l : Line) (k : ℕ) → P [] l → P (line.ask ∷ []) (askOf l) → P (line.withdraw ∷ []) (withdrawOf l)
-    → (before after : Bool) (t : Told) → P (couriers before after t) (courierBy before after t l k .line)
-by-courier P l k none asks gone false false t = none
-by-courier P l k none asks gone false true t = asks
-by-courier P l k none asks gone true false t = gone
-by-courier P l k none asks gone true true told.Nothing = none
-by-courier P l k none asks gone true true told.PutOut = none
-by-courier P l k none asks gone true true told.Sent = asks
-by-courier P l k none asks gone true true told.Failed = none
-by-courier P l k none asks gone true true (told.Up n) = none
+    → (same before after : Bool) (t : Told) → P (couriers same before after t) (courierBy same before after t l k .line)
+by-courier P l k none asks gone same false false t = none
+by-courier P l k none asks gone same false true t = asks
+by-courier P l k none asks gone same true false t = gone
+by-courier P l k none asks gone true true true told.Nothing = none
+by-courier P l k none asks gone true true true told.PutOut = none
+by-courier P l k none asks gone true true true told.Sent = asks
+by-courier P l k none asks gone true true true told.Failed = none
+by-courier P l k none asks gone true true true (told.Up n) = none
+by-courier P l k none asks gone false true true t = asks
 
 -- ---- the line
 
@@ -79,7 +86,7 @@ pub none-under-way : (l : Line) → busy l ≡ false → underWay (l .phase) ≡
 none-under-way l e = either (underWay (l .phase)) (λ a. a ≡ false) (λ u. clash (sym e ∙ ap (λ a. a || l .held) u)) (λ n. refl)
 
 module _ (l : Line) (k : ℕ) where
-  -- it leaves a line that is as busy as it should be, asks one that is not busy, has a message withdrawn that is gone
+  -- it leaves a line that is as busy as it should be, asks one on which none is under way, has a message withdrawn that is gone
   left-alone : (sending : Bool) → busy l ≡ sending → LineCarried sending l l
   left-alone sending e = record {
     same = sym e;
@@ -87,31 +94,36 @@ module _ (l : Line) (k : ℕ) where
     held = λ u. ap (λ h. lineAt h (l .phase)) (ap (λ a. a || l .held) (sym u) ∙ e);
   }
 
-  asked : busy l ≡ false → LineCarried true l (askOf l)
-  asked e = record { same = sym (busy-still l .ask); under-way = λ u. clash (sym (none-under-way l e) ∙ u); held = ask-holds (l .held) (l .phase) }
+  asked : underWay (l .phase) ≡ false → LineCarried true l (askOf l)
+  asked n = record { same = sym (busy-still l .ask); under-way = λ u. clash (sym n ∙ u); held = ask-holds (l .held) (l .phase) }
 
   withdrawn : underWay (l .phase) ≡ false → LineCarried false l (withdrawOf l)
   withdrawn n = record { same = sym (busy-still l .withdraw ∙ n); under-way = λ u. clash (sym n ∙ u); held = λ u. refl }
 
   line-carried :
-      (before after : Bool) (t : Told) → Turns t before (busy l) → (t ≡ told.Failed → after ≡ false) → (after ≡ false → underWay (l .phase) ≡ false)
-      → LineCarried after l (courierBy before after t l k .line)
-  line-carried false false t turned failed gone = left-alone false (not-busy t turned)
-  line-carried false true t turned failed gone = asked (not-busy t turned)
-  line-carried true false t turned failed gone = withdrawn (gone refl)
-  line-carried true true told.Nothing turned failed gone = left-alone true (sym turned)
-  line-carried true true told.PutOut turned failed gone = left-alone true (turned .1)
-  line-carried true true told.Sent turned failed gone = asked (turned .1)
-  line-carried true true told.Failed turned failed gone = clash (sym (failed refl))
-  line-carried true true (told.Up n) turned failed gone = left-alone true (sym turned)
+      (same before after : Bool) (t : Told) → Turns t before (busy l) → (t ≡ told.Failed → same ≡ false) → (same ≡ false → underWay (l .phase) ≡ false)
+      → (before ≡ true → after ≡ false → same ≡ false) → LineCarried after l (courierBy same before after t l k .line)
+  line-carried same false false t turned failed gone differ = left-alone false (not-busy t turned)
+  line-carried same false true t turned failed gone differ = asked (none-under-way l (not-busy t turned))
+  line-carried same true false t turned failed gone differ = withdrawn (gone (differ refl refl))
+  line-carried true true true told.Nothing turned failed gone differ = left-alone true (sym turned)
+  line-carried true true true told.PutOut turned failed gone differ = left-alone true (turned .1)
+  line-carried true true true told.Sent turned failed gone differ = asked (none-under-way l (turned .1))
+  line-carried true true true told.Failed turned failed gone differ = clash (sym (failed refl))
+  line-carried true true true (told.Up n) turned failed gone differ = left-alone true (sym turned)
+  line-carried false true true t turned failed gone differ = asked (gone refl)
 
   -- ---- the block
 
-  none-left : (before : Bool) (t : Told) → (before ≡ false → k ≡ 1) → courierBy before false t l k .block ≡ 1
-  none-left true t was = refl
-  none-left false t was = was refl
+  pub begun-at : (before : Bool) (t : Told) → courierBy false before true t l k .block ≡ 1
+  begun-at true t = refl
+  begun-at false t = refl
 
-  stays-at : (sending : Bool) (t : Told) → t ≢ told.Sent → courierBy sending sending t l k .block ≡ k
+  none-left : (same before : Bool) (t : Told) → (before ≡ false → k ≡ 1) → courierBy same before false t l k .block ≡ 1
+  none-left same true t was = refl
+  none-left same false t was = was refl
+
+  stays-at : (sending : Bool) (t : Told) → t ≢ told.Sent → courierBy true sending sending t l k .block ≡ k
   stays-at false t other = refl
   stays-at true told.Nothing other = refl
   stays-at true told.PutOut other = refl
@@ -121,17 +133,20 @@ module _ (l : Line) (k : ℕ) where
 
   block-carried :
       (before after : Sending) (t : Told) → Turns t (sendingBy before) (busy l)
-      → BlockCarried before after t k (courierBy (sendingBy before) (sendingBy after) t l k .block)
+      → BlockCarried before after t k (courierBy (sameMessage before after) (sendingBy before) (sendingBy after) t l k .block)
   block-carried before after t turned = record {
-    begun = λ e f. rw (e, f) refl;
-    none = λ was e. rw e (none-left (sendingBy before) t was);
-    next = λ e f. rw (e, f, subst (λ (x : Told). Turns x (sendingBy before) (busy l)) f turned .0) refl;
-    stays = λ e other. rw e (stays-at (sendingBy before) t other);
+    begun = λ other f. rw (other-message before after (λ e. other (sym e)), f) (begun-at (sendingBy before) t);
+    none = λ was e. rw e (none-left (sameMessage before after) (sendingBy before) t was);
+    next = λ e f. rw (message-same before after (sym e), e, f, subst (λ (x : Told). Turns x (sendingBy before) (busy l)) f turned .0) refl;
+    stays = λ e other. rw (message-same before after (sym e), e) (stays-at (sendingBy before) t other);
   }
 
 pub courier-agrees : CourierAgrees
 courier-agrees before after t l k room w = record {
-  line = line-carried l k (sendingBy before) (sendingBy after) t (w .turned) (w .failed) (w .gone);
+  line =
+      line-carried l k (sameMessage before after) (sendingBy before) (sendingBy after) t (w .turned)
+      (λ f. other-message before after (λ e. w .failed f (sym e))) (λ f. w .gone (λ e. message-other before after f (sym e)))
+      (λ b a. other-message before after (λ e. clash (sym a ∙ ap sendingBy (sym e) ∙ b)));
   block = block-carried l k before after t (w .turned);
 }
 
@@ -144,56 +159,117 @@ goesOnBy told.Nothing u x = true
 goesOnBy told.PutOut u x = true
 goesOnBy told.Sent u x = hasNext u
 goesOnBy told.Failed u x = false
-goesOnBy (told.Up n) u x = cond (isSending (u .exchange)) (isSending x) true
+goesOnBy (told.Up n) u x = cond (isSending (u .exchange)) (sameMessage (u .exchange .sending) (x .sending)) true
 
--- what is being sent then, where z was
-abbrev pub sendingOn : Bool → Sending → Sending
-sendingOn on z = cond on z sending.Nothing
+-- What is being sent then is y, where z was: the same, or a report begins where nothing was; or z is sent no more, and a report may follow
+-- it in the same call (02, request 2).
+abbrev pub Goes : Bool → Sending → Sending → Type 0
+Goes true z y = (y ≡ z) ⊎ ReportBegins z y
+Goes false z y = (y ≢ z) × NoneOrReport y
 
-pub sent-sends : (z : Sending) (p : ℕ) → sentFrom z p ≡ true → sendingBy z ≡ true
-sent-sends sending.Nothing p e = clash e
-sent-sends (sending.Primary q n) p e = refl
-sent-sends (sending.Reply q f n) p e = clash e
+judged-goes : (z y : Sending) → (y ≡ z) ⊎ Withdrawn z y ⊎ ReportBegins z y → Goes (cond (sendingBy z) (sameMessage z y) true) z y
+judged-goes z y (inl e) =
+    subst (λ on. Goes on z y) (sym (ap (λ same. cond (sendingBy z) same true) (message-same z y (sym e)) ∙ either (sendingBy z) (λ b. cond b true true ≡ true) (λ _. refl) (λ _. refl)))
+    (inl e)
+judged-goes z y (inr (inl w)) =
+    let other = withdrawn-other z y w in
+    rw (sent-busy z (w .place) (w .was), other-message z y (λ e. other (sym e))) (other, w .now)
+judged-goes z y (inr (inr w)) = subst (λ on. Goes on z y) (sym (ap (λ (s : Sending). cond (sendingBy s) (sameMessage z y) true) (w .was))) (inr w)
 
-both-on : (b : Bool) → cond b b true ≡ true
-both-on true = refl
-both-on false = refl
+-- what is told to be over was being sent
+pub over-sends : (t : Told) (before after : Bool) → Turns t before after → line.isOver t ≡ true → before ≡ true
+over-sends told.Nothing before after w e = clash e
+over-sends told.PutOut before after w e = clash e
+over-sends told.Sent before after w e = w .0
+over-sends told.Failed before after w e = w .0
+over-sends (told.Up n) before after w e = clash e
 
-judged-sends : (z y : Sending) → (y ≡ z) ⊎ Withdrawn z y → y ≡ sendingOn (cond (sendingBy z) (sendingBy y) true) z
-judged-sends z y =
-    ⊎-elim (λ e. e ∙ sym (ap (λ on. sendingOn on z) (ap (λ v. cond (sendingBy z) (sendingBy v) true) e ∙ both-on (sendingBy z))))
-    (λ w. w .now ∙ (λ i. sendingOn (cond (sym (sent-sends z (w .place) (w .was)) i) (sendingBy (sym (w .now) i)) true) z))
-
--- where no message is being sent, none is by judging
-pub judged-still : (c : Terms) (x : Exchange) (h d room : List ℕ) → isSending x ≡ false → judgeOf c x h d room .answer .exchange .sending ≡ x .sending
-judged-still c x h d room idle =
-    ⊎-elim (λ e. e) (λ w. clash (sym idle ∙ sent-sends (x .sending) (w .place) (w .was))) (sending-ends c x .judged h d room)
+-- behind it comes time
+then-goes : (on : Bool) (z x y : Sending) → Goes on z x → (y ≡ x) ⊎ ReportBegins x y → (on ≡ false → y ≢ z) → Goes on z y
+then-goes true z x y (inl e) (inl f) other = inl (f ∙ e)
+then-goes true z x y (inl e) (inr w) other = inr (record { was = sym e ∙ w .was; now = w .now })
+then-goes true z x y (inr w) (inl f) other = inr (record { was = w .was; now = subst NoneOrReport (sym f) (w .now) })
+then-goes true z x y (inr w) (inr v) other = inr (record { was = w .was; now = v .now })
+then-goes false z x y g (inl f) other = (other refl, subst NoneOrReport (sym f) (g .1))
+then-goes false z x y g (inr v) other = (other refl, v .now)
 
 module _ (u : Link) (h : Heard) (room : List ℕ) where
   -- what they have come to
   abbrev pub heardAs : Told → Remark → Exchange
   heardAs t r = hearing t r (hears u h) room .midway .exchange
 
-  heard-sends : (t : Told) (r : Remark) → heardAs t r .sending ≡ sendingOn (goesOnBy t u (heardAs t r)) (u .exchange .sending)
-  heard-sends told.Nothing r = refl
-  heard-sends told.PutOut r =
+  -- where a block is put out, its message goes on
+  put-out-sends : (r : Remark) → heardAs told.PutOut r .sending ≡ u .exchange .sending
+  put-out-sends r =
       by-put-out (λ more (x : Exchange). x .sending ≡ u .exchange .sending) (hasNext u) (u .exchange) (λ e. refl)
       (λ e. sending-ends (u .settings .terms) (u .exchange) .put-out)
-  heard-sends told.Sent r =
-      by-sent (λ more (m : Midway). m .exchange .sending ≡ sendingOn more (u .exchange .sending)) (hasNext u) (u .exchange) (noteBy r)
-      (λ e. refl) (λ e. sending-ends (u .settings .terms) (u .exchange) .acknowledged)
-  heard-sends told.Failed r = sending-ends (u .settings .terms) (u .exchange) .failed
-  heard-sends (told.Up n) r =
-      judged-sends (u .exchange .sending) _
-      (sending-ends (u .settings .terms) (u .exchange) .judged (firstTen (h .received)) (part 10 n (h .received)) room)
 
-  -- time has no part in it
-  pub told-sends : (ticks : Bool) (t : Told) (r : Remark)
-      → passing ticks (u .settings .terms) (hearing t r (hears u h) room .midway) .exchange .sending
-      ≡ sendingOn (goesOnBy t u (heardAs t r)) (u .exchange .sending)
-  told-sends false t r = heard-sends t r
-  told-sends true t r = sending-ends (u .settings .terms) (heardAs t r) .ticked ∙ heard-sends t r
-
-  -- where a block is put out, its message goes on
   pub out-sends : (t : Told) (r : Remark) → t ≡ told.PutOut → heardAs t r .sending ≡ u .exchange .sending
-  out-sends t r e = heard-sends t r ∙ ap (λ (z : Told). sendingOn (goesOnBy z u (heardAs t r)) (u .exchange .sending)) e
+  out-sends t r e = subst (λ (z : Told). heardAs z r .sending ≡ u .exchange .sending) (sym e) (put-out-sends r)
+
+  -- the state is one that was reached: a report on its way has the last number given
+  module _ (g : Sound (u .exchange)) (numbered : Numbered (u .exchange)) where
+    abbrev c : Terms
+    c = u .settings .terms
+
+    heard-goes : (t : Told) (r : Remark) → (line.isOver t ≡ true → isSending (u .exchange) ≡ true)
+        → Goes (goesOnBy t u (heardAs t r)) (u .exchange .sending) (heardAs t r .sending)
+    heard-goes told.Nothing r s = inl refl
+    heard-goes told.PutOut r s = inl (put-out-sends r)
+    heard-goes told.Sent r s =
+        by-sent (λ more (m : Midway). Goes more (u .exchange .sending) (m .exchange .sending)) (hasNext u) (u .exchange) (noteBy r)
+        (λ e. inl refl)
+        (λ e. (acknowledged-other (u .exchange) numbered (s refl), sending-ends c (u .exchange) .acknowledged .some (some-sent _ (s refl))))
+    heard-goes told.Failed r s = (failed-other (u .exchange) numbered (s refl), sending-ends c (u .exchange) .failed .some (some-sent _ (s refl)))
+    heard-goes (told.Up n) r s =
+        judged-goes (u .exchange .sending) _ (sending-ends c (u .exchange) .judged (firstTen (h .received)) (part 10 n (h .received)) room)
+
+    -- where nothing is being sent no number was given
+    record Came (x : Exchange) : Type 0 where
+      none : x .sending ≡ sending.Nothing → x .numbers .last ≡ u .exchange .numbers .last
+      sound : Sound x
+
+    stayed : Came (u .exchange)
+    stayed = record { none = λ e. refl; sound = g }
+
+    came : (k : exchange.Call) → Moves (u .exchange) (exchange.called c (u .exchange) room k .exchange) → Came (exchange.called c (u .exchange) room k .exchange)
+    came k m = record { none = none-given (u .exchange) (exchange.called c (u .exchange) room k .exchange) m; sound = sound-on c (u .exchange) room k g }
+
+    heard-came : (t : Told) (r : Remark) → Came (heardAs t r)
+    heard-came told.Nothing r = stayed
+    heard-came told.PutOut r =
+        by-put-out (λ more (x : Exchange). Came x) (hasNext u) (u .exchange) (λ e. stayed)
+        (λ e. came exchange.put-out (call-moves c (u .exchange) room (four-places (u .exchange) g) exchange.put-out))
+    heard-came told.Sent r =
+        by-sent (λ more (m : Midway). Came (m .exchange)) (hasNext u) (u .exchange) (noteBy r) (λ e. stayed)
+        (λ e. came exchange.acknowledged (call-moves c (u .exchange) room (four-places (u .exchange) g) exchange.acknowledged))
+    heard-came told.Failed r = came exchange.failed (call-moves c (u .exchange) room (four-places (u .exchange) g) exchange.failed)
+    heard-came (told.Up n) r =
+        let k = exchange.block (firstTen (h .received)) (part 10 n (h .received)) in came k (call-moves c (u .exchange) room (four-places (u .exchange) g) k)
+
+    -- where it is not sent on, a message was being sent
+    off-sends : (t : Told) (x : Exchange) → goesOnBy t u x ≡ false → (line.isOver t ≡ true → isSending (u .exchange) ≡ true) → isSending (u .exchange) ≡ true
+    off-sends told.Nothing x e s = clash (sym e)
+    off-sends told.PutOut x e s = clash (sym e)
+    off-sends told.Sent x e s = s refl
+    off-sends told.Failed x e s = s refl
+    off-sends (told.Up n) x e s =
+        either (isSending (u .exchange)) (λ b. cond b (sameMessage (u .exchange .sending) (x .sending)) true ≡ false → b ≡ true) (λ b f. refl) (λ b f. clash (sym f)) e
+
+    -- Time may have a report begin; behind a message that is over it is another one.
+    late : (on : Bool) (x : Exchange) → (on ≡ false → isSending (u .exchange) ≡ true) → Came x → Goes on (u .exchange .sending) (x .sending)
+        → Goes on (u .exchange .sending) (exchange.called c x room exchange.tick .exchange .sending) × Came (exchange.called c x room exchange.tick .exchange)
+    late on x off a w =
+        let y = exchange.called c x room exchange.tick .exchange in
+        let z = u .exchange .sending in
+        let m = call-moves c x room (four-places x (a .sound)) exchange.tick in
+        let late = sending-ends c x .ticked in (
+          then-goes on z (x .sending) (y .sending) w late
+              (λ e. other-still (u .exchange) x y (a .none) m numbered (off e) (subst (λ b. Goes b z (x .sending)) e w .0) late),
+          record { none = none-given-on (u .exchange) x y (a .none) m late; sound = sound-on c x room exchange.tick (a .sound) },
+        )
+
+    pub told-sends : (ticks : Bool) (t : Told) (r : Remark) → (line.isOver t ≡ true → isSending (u .exchange) ≡ true)
+        → Goes (goesOnBy t u (heardAs t r)) (u .exchange .sending) (passing ticks c (hearing t r (hears u h) room .midway) .exchange .sending)
+    told-sends false t r s = heard-goes t r s
+    told-sends true t r s = late (goesOnBy t u (heardAs t r)) (heardAs t r) (λ off. off-sends t (heardAs t r) off s) (heard-came t r) (heard-goes t r s) .0

@@ -7,6 +7,7 @@ use Rattle.line.specs.Line.{Heard}
 use Rattle.line.specs.History as line
 use Rattle.line.specs.declared.step.Told.{Told}
 use Rattle.line.specs.declared.step.Told.the-variants as told
+use Rattle.exchange.specs.Reports.{sameMessage}
 use Rattle.exchange.specs.Request.{Request, lends, isSending}
 use Rattle.exchange.specs.declared.Exchange.{Exchange}
 use Rattle.link.specs.Courier.{carried, courierBy}
@@ -26,11 +27,12 @@ Leads u s ks v =
     × (v .settings ≡ u .settings)
 
 -- the courier's calls, and settling behind them
-courier-leads : (u : Link) (s : line.Seen) (before after : Bool) (t : Told) (x : Exchange)
-    → Leads u s (settling (couriers before after t)) (closed u (courierBy before after t (u .line) (u .block)) x)
+courier-leads : (u : Link) (s : line.Seen) (same before after : Bool) (t : Told) (x : Exchange)
+    → Leads u s (settling (couriers same before after t)) (closed u (courierBy same before after t (u .line) (u .block)) x)
 unfolding line.track
-courier-leads u s before after t x =
-    by-courier (λ ks m. Leads u s (settling ks) (closed u (carried m (u .block)) x)) (u .line) (u .block) (refl, refl, refl) (refl, refl, refl) (refl, refl, refl) before after t
+courier-leads u s same before after t x =
+    by-courier (λ ks m. Leads u s (settling ks) (closed u (carried m (u .block)) x)) (u .line) (u .block) (refl, refl, refl) (refl, refl, refl) (refl, refl, refl)
+    same before after t
 
 -- a step of the line, and what is behind it
 module _ (v : Link) (s : line.Seen) (k : line.Call) (ticks : Bool) (room o : List ℕ) where
@@ -41,12 +43,13 @@ module _ (v : Link) (s : line.Seen) (k : line.Call) (ticks : Bool) (room o : Lis
   last = passing ticks (v .settings .terms) (heardBy v made room .midway) .exchange
 
   abbrev carry : List line.Call
-  carry = couriers (isSending (v .exchange)) (isSending last) (made .step .told)
+  carry = couriers (sameMessage (v .exchange .sending) (last .sending)) (isSending (v .exchange)) (isSending last) (made .step .told)
 
   step-leads : Leads v s (k ∷ settling carry) (stepped ticks v made room o .answer .link)
   unfolding line.track
   step-leads =
-      courier-leads (hears v made) (line.sees s k (made .step .out) (made .step .told) (made .step .remark)) (isSending (v .exchange)) (isSending last) (made .step .told) last
+      courier-leads (hears v made) (line.sees s k (made .step .out) (made .step .told) (made .step .remark))
+      (sameMessage (v .exchange .sending) (last .sending)) (isSending (v .exchange)) (isSending last) (made .step .told) last
 
 module _ (u : Link) (s : line.Seen) (room o : List ℕ) where
   abbrev After : List line.Call → Left → Type 0
@@ -70,7 +73,9 @@ module _ (u : Link) (s : line.Seen) (room o : List ℕ) where
       by : (t : Bool) → lends r ≡ t → After (cond t (settling (couriersIn u room (request r))) []) (called u room o (request r))
       by true l =
           by-request u r room o (After (settling (couriersIn u room (request r)))) (λ n e. (refl, refl, refl))
-          (λ p e k. courier-leads u s (isSending (u .exchange)) (isSending (answering u r room .answer .exchange)) told.Nothing (answering u r room .answer .exchange))
+          (λ p e k.
+          let x = answering u r room .answer .exchange in
+          courier-leads u s (sameMessage (u .exchange .sending) (x .sending)) (isSending (u .exchange)) (isSending x) told.Nothing x)
           (λ p e k. absurd (false≢true (sym k ∙ l))) (λ n. (refl, refl, refl))
       by false l =
           by-request u r room o (After []) (λ n e. (refl, refl, refl)) (λ p e k. absurd (false≢true (sym l ∙ k))) (λ p e k. (refl, refl, refl)) (λ n. (refl, refl, refl))

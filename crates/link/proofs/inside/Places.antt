@@ -9,6 +9,7 @@ use Rattle.exchange.specs.Releases as side
 use Rattle.exchange.specs.Watching.{watch}
 use Rattle.exchange.proofs.AnyRoom.{track-alike}
 use Rattle.exchange.proofs.Runs.{Sound, reached-more, reached-fresh, sound-reached, three-equal}
+use Rattle.exchange.proofs.Another.{Numbered, numbered-reached}
 use Rattle.exchange.proofs.Sides.{Seen, Reached as PlaceReached, place, watches}
 use Rattle.exchange.proofs.Watching.{watched-all, watched-start}
 use Rattle.link.specs.History.{Made, Track, exchangeTrack, termsIn, onExchangeIn, lentRoom, next}
@@ -58,6 +59,10 @@ exchange-inside t w =
 
 pub sound-inside : Always (λ t. Sound (t .link .exchange))
 sound-inside t w = let x = exchange-inside t w in sound-reached (termsIn t) (exchangeTrack t (x .room)) (x .reached)
+
+-- a report on its way has the last number given
+pub numbered-inside : Always (λ t. Numbered (t .link .exchange))
+numbered-inside t w = let x = exchange-inside t w in numbered-reached (termsIn t) (exchangeTrack t (x .room)) (x .reached)
 
 -- ---- the places
 

@@ -16,8 +16,8 @@ use Rattle.place.specs.declared.IncomingStage.the-variants as arrival
 use Rattle.place.specs.declared.Incoming.{Incoming}
 use Rattle.exchange.specs.Flags.{noMarks, noFlags}
 use Rattle.exchange.specs.Exchange.{ownPlace, incomingPlace, putOwn, putIncoming, withSending}
-use Rattle.exchange.specs.Tick.{tickOf}
-use Rattle.exchange.specs.Send.{endedOwn, endedReply, failedBy, failedOf}
+use Rattle.exchange.specs.Tick.{passedOf, tickOf}
+use Rattle.exchange.specs.Send.{endedOwn, endedReply, endedReport, failedBy, failedOf}
 use Rattle.exchange.specs.Rules.{Fours}
 use Rattle.exchange.specs.Releases as side
 use Rattle.exchange.specs.Theorems.{flagAt, becameGiven, becameComplete, ThrowsOut as BlockThrowsOut, noneThrown, FlagsTell, Flagged}
@@ -61,7 +61,7 @@ second-at xs ys e p k = either-at xs ys p k ∙ ap (λ (z : Bool). z || flagAt y
 
 -- as where it is no step
 tick-alone : (c : Terms) (x : Exchange) → bothFlags noFlags (tickOf c x .flags) ≡ tickOf c x .flags
-unfolding tickOf
+unfolding passedOf
 tick-alone c x = refl
 
 -- the same messages are thrown out
@@ -93,10 +93,11 @@ none-completed false false c f g = g
 
 -- it completes nothing and drops nothing
 failed-marks : (x : Exchange) (q : Sending) → (failedBy q x .flags .completed ≡ noMarks) × (failedBy q x .flags .dropped ≡ noMarks)
-unfolding endedOwn endedReply
+unfolding endedOwn endedReply endedReport
 failed-marks x sending.Nothing = (refl, refl)
 failed-marks x (sending.Primary q n) = (refl, refl)
 failed-marks x (sending.Reply q f n) = (refl, refl)
+failed-marks x (sending.Report f n) = (refl, refl)
 
 -- and opens nothing
 failed-stage : (h : Header) (z : IncomingStage) → incomingIsOpen (incomingFailed (record { header = h; stage = z })) ≡ openAt z
@@ -107,12 +108,13 @@ failed-stage h (arrival.Replying n) = refl
 failed-stage h (arrival.Replied n e) = refl
 
 failed-open : (x : Exchange) → Fours x → (p : ℕ) → p < 4 → (q : Sending) → incomingIsOpen (incomingPlace (failedBy q x .exchange) p) ≡ incomingIsOpen (incomingPlace x p)
-unfolding endedOwn endedReply putOwn putIncoming withSending
+unfolding endedOwn endedReply endedReport putOwn putIncoming withSending
 failed-open x four p within sending.Nothing = refl
 failed-open x four p within (sending.Primary q n) = refl
 failed-open x four p within (sending.Reply q f n) =
     set-one (λ t (i : Incoming). incomingIsOpen i ≡ incomingIsOpen (incomingPlace x p)) (x .incoming) freshIncoming q _ p (omega (arith, four .incoming))
     (λ z. failed-stage (incomingPlace x q .header) (incomingPlace x q .stage) ∙ ap (λ (i : ℕ). incomingIsOpen (incomingPlace x i)) z) refl
+failed-open x four p within (sending.Report f n) = refl
 
 module _ (c : Terms) (x : Exchange) (four : Fours x) (next-four : Fours (failedOf x .exchange)) where
   abbrev y : Exchange
@@ -137,7 +139,7 @@ module _ (c : Terms) (x : Exchange) (four : Fours x) (next-four : Fours (failedO
   keeps-verdict v fours k p within e given = ap ownHasVerdict (verdict-stays c v [] (fours .own) p within given k e) ∙ given
 
   failed-flagged : Flagged x z noneThrown (bothFlags (failedOf x .flags) (tickOf c y .flags))
-  unfolding becameGiven becameComplete tickOf
+  unfolding becameGiven becameComplete passedOf
   failed-flagged = record {
     verdicts = λ p k.
         either-at (failedOf x .flags .verdicts) (tickOf c y .flags .verdicts) p k ∙ (λ i. first .verdicts p k i || then .verdicts p k i)
@@ -157,7 +159,7 @@ module _ (c : Terms) (x : Exchange) (four : Fours x) (next-four : Fours (failedO
 
 -- ---- a call on the line
 
-abbrev isBlock : exchange.Call → Bool
+abbrev pub isBlock : exchange.Call → Bool
 isBlock (exchange.block h d) = true
 isBlock exchange.tick = false
 isBlock exchange.put-out = false

@@ -26,7 +26,8 @@ use Rattle.table.specs.declared.Found.the-variants.{At, Nowhere}
 use Rattle.exchange.specs.Note.{noteNumber as blockNote}
 use Rattle.exchange.specs.Exchange.{ownPlace, sentFrom}
 use Rattle.exchange.specs.Judge.{judgeOf}
-use Rattle.exchange.specs.Request.{refusedBy, releaseOwn, Request, primary, reply, free-own, free-incoming, answerOf}
+use Rattle.exchange.specs.Request.{refusedBy, releaseOwn, primaryHeader, Request, primary, reply, free-own, free-incoming, answerOf}
+use Rattle.exchange.specs.Refusals.{numberGiven}
 use Rattle.exchange.specs.Rules.{Fours, LowestAt, OfReply, total, Ruled, misrouted, duplicate, stray, empty, too-long, no-place, kept}
 use Rattle.exchange.specs.History as exchange
 use Rattle.exchange.specs.Watching.{foundAt, toldBy, acceptedAs, ownTaken, ownSees}
@@ -58,8 +59,8 @@ use Rattle.link.proofs.moves.Notes.{by-note, kept-note, spoilt-note, up
 -- ---- the header of a request
 
 pub header-as-asked : HeaderAsAsked
-header-as-asked c x q i =
-    let e = header-and-back _ i in
+header-as-asked c x q n i =
+    let e = header-and-back (primaryHeader c q n (numberGiven x)) i in
     record {
       r = ap (λ (h : Header). h .r) e;
       device = ap (λ (h : Header). h .device) e;
@@ -193,8 +194,8 @@ module _ (t : Track) (w : Reached t) (p : ℕ) (within : p < 4) where
         free-exactly c _ (places-inside t w .own p within) .0 (ap standingAt free)
 
     asked-so : (q : Primary) (d : List ℕ) → answerOf c x (primary q d) room .answer .asked ≡ asked.Taken p
-        → own.asked (s .request) s (acceptedAs c x q) ≡ underwayWith s (acceptedAs c x q)
-    asked-so q d e = ap (λ (r : own.Request). own.asked r s (acceptedAs c x q)) (taken-free q d e)
+        → own.asked (s .request) s (acceptedAs c x q (length d)) ≡ underwayWith s (acceptedAs c x q (length d))
+    asked-so q d e = ap (λ (r : own.Request). own.asked r s (acceptedAs c x q (length d))) (taken-free q d e)
 
     -- ---- all that a call can be to this onlooker
 
@@ -303,7 +304,7 @@ module _ (t : Track) (w : Reached t) (p : ℕ) (within : p < 4) where
       count-same count stays at-kept at-spoilt _ (passes n) = absurd (no-tick n)
       count-same count stays at-kept at-spoilt _ (loses-passing n l) = absurd (no-tick n)
       count-same count stays at-kept at-spoilt _ (loses n l) = stays own.lost (s .header)
-      count-same count stays at-kept at-spoilt _ (opens q o) = stays own.underway (acceptedAs c x q)
+      count-same count stays at-kept at-spoilt _ (opens q o) = stays own.underway (acceptedAs c x q (length (o .rest)))
       count-same count stays at-kept at-spoilt _ (goes-out f) = absurd (not-out f)
       count-same count stays at-kept at-spoilt _ (acknowledges k) = absurd (not-acked k)
       count-same count stays at-kept at-spoilt _ (frees f) = stays own.none (s .header)
@@ -380,7 +381,7 @@ module _ (t : Track) (w : Reached t) (p : ℕ) (within : p < 4) where
     opened-asked : (q : Primary) (o : Opens t m p q) → answerOf c x (primary q (o .rest)) room .answer .asked ≡ asked.Taken p
     opened-asked q o = request-taken t m (primary q (o .rest)) (o .told) .asked ∙ ap asked.Taken (opened-at q o)
 
-    opened-so : (q : Primary) → Opens t m p q → next t m .own p ≡ underwayWith s (acceptedAs c x q)
+    opened-so : (q : Primary) (o : Opens t m p q) → next t m .own p ≡ underwayWith s (acceptedAs c x q (length (o .rest)))
     opened-so q o = seen-taken t m (primary q (o .rest)) (o .told) (ownSees c p) s p _ (opened-at q o) refl ∙ asked-so q (o .rest) (opened-asked q o)
 
     -- the last block is put out, of a request that stands so

@@ -16,25 +16,26 @@ use Rattle.exchange.specs.Exchange.{ownPlace, sentFrom}
 use Rattle.exchange.specs.Assembly.{expectsAt}
 use Rattle.exchange.specs.Request.{primary}
 use Rattle.exchange.specs.Reading.{ownReading}
-use Rattle.exchange.specs.Numbers.{numberShown, NumbersSeen, inUse, NumberNew}
-use Rattle.exchange.proofs.Numbering.{numbers-kept-on, number-distinct}
-use Rattle.exchange.proofs.Runs.{four-places, anyone, run-alone}
+use Rattle.exchange.specs.Numbers.{numberShown, NumbersAre, inUse, NumberNew}
+use Rattle.exchange.proofs.Numbering.{numbers-fresh, numbersOf, own-numbers, number-distinct}
+use Rattle.exchange.proofs.Runs.{four-places}
 use Rattle.exchange.specs.declared.Exchange.{Exchange}
 use Rattle.exchange.specs.declared.OwnReading.{OwnReading}
 use Rattle.exchange.specs.declared.OwnReading.the-variants as reading
 use Rattle.exchange.specs.declared.Asked.the-variants as asked
 use Rattle.exchange.specs.declared.Primary.{Primary}
 use Rattle.link.specs.Reading.{ownOf}
-use Rattle.link.specs.History.{Made, Track, exchangeTrack, termsIn, onExchangeIn, next}
+use Rattle.link.specs.History.{Made, Track, termsIn, next}
 use Rattle.link.specs.Inside.{Reached}
 use Rattle.link.specs.Verdicts.{requestIn}
 use Rattle.link.specs.Numbers.{PlacesDistinct}
 use Rattle.link.specs.Moves.{Opens, OwnStep, same, passes, loses, loses-passing, opens, goes-out, acknowledges, frees, keeps, spoils}
 use Rattle.link.proofs.inside.Reached.{reached-next, by-calls}
-use Rattle.link.proofs.inside.Places.{lent, goes, sound-inside, places-inside}
+use Rattle.link.proofs.inside.Places.{lent, sound-inside, places-inside}
 use Rattle.link.proofs.moves.Own.{underway-exactly, own-seen}
 use Rattle.link.proofs.verdicts.Own.{request-read, free-exactly, no-place-exactly}
 use Rattle.link.proofs.verdicts.Taken.{request-taken, request-leads}
+use Rattle.link.proofs.numbers.Kept.{call-kept}
 
 -- ---- what is seen of a place
 
@@ -84,8 +85,8 @@ data Was (t : Track) (m : Made) (p : ℕ) (s : own.Seen) : Type 0 where
   anew : (q : Primary) → Opens t m p q → Was t m p s
 
 pub record Distinct (t : Track) : Type 0 where
-  -- "0 to 65535"
-  pub fits : t .link .exchange .numbers .last ≤ 65535
+  -- "0 to 65535", and a report on its way has the last one given
+  pub numbers : NumbersAre (t .link .exchange) (numbersOf (t .link .exchange))
   pub apart : (p q : ℕ) → p < 4 → q < 4 → p ≢ q → Used t p → Used t q → number (t .own p) ≢ number (t .own q)
 
 module _ (t : Track) (w : Reached t) (m : Made) (g : Distinct t) where
@@ -120,10 +121,9 @@ module _ (t : Track) (w : Reached t) (m : Made) (g : Distinct t) where
   given p q p-within q-within r o used other e =
       let y = request-taken t m (primary r (o .rest)) (o .told) in
       let place : y .place ≡ p = let z = sym (y .outcome) ∙ o .place in cc in
-      let seen : NumbersSeen = record { last = x .numbers .last; latest = x .numbers .latest } in
-      let new : NumberNew x seen (numberShown (ownOf (next t m .link) p)) =
-      subst (λ (z : Exchange). NumberNew x seen (numberShown (ownReading z p))) (request-leads t m (primary r (o .rest)) (o .told))
-      (number-distinct (termsIn t) x (four-places x (sound-inside t w)) seen (record { last = refl; latest = refl; fits = g .fits }) r (o .rest) (lent t m) p
+      let new : NumberNew x (numbersOf x) (numberShown (ownOf (next t m .link) p)) =
+      subst (λ (z : Exchange). NumberNew x (numbersOf x) (numberShown (ownReading z p))) (request-leads t m (primary r (o .rest)) (o .told))
+      (number-distinct (termsIn t) x (four-places x (sound-inside t w)) (numbersOf x) (g .numbers) r (o .rest) (lent t m) p
       (y .asked ∙ ap asked.Taken place)) in
       new .from-open q q-within (read-used t w q q-within other)
       (number-read (next t m) (reached-next t w m) p p-within used ∙ e ∙ sym (number-read t w q q-within other))
@@ -144,21 +144,16 @@ module _ (t : Track) (w : Reached t) (m : Made) (g : Distinct t) where
       by (anew r o) (as-was b k) = given p q p-within q-within r o up (b uq) (e ∙ old q k)
       by (anew r o) (anew s u) = ne (one-place p q r s o u)
 
-  last-next : next t m .link .exchange .numbers .last ≤ 65535
-  last-next =
-      subst (λ (y : Exchange). y .numbers .last ≤ 65535) (goes t m)
-      (run-alone (termsIn t) (λ (y : Exchange). y .numbers .last ≤ 65535) (λ k. Unit {0})
-      (λ y room k i sound fits.
-      numbers-kept-on (termsIn t) y room (four-places y sound) (record { last = y .numbers .last; latest = y .numbers .latest }) k
-      (record { last = refl; latest = refl; fits = fits }) .fits)
-      (exchangeTrack t (lent t m)) (onExchangeIn t m) (anyone (onExchangeIn t m)) (sound-inside t w) (g .fits))
+  numbers-next : NumbersAre (next t m .link .exchange) (numbersOf (next t m .link .exchange))
+  unfolding x
+  numbers-next = own-numbers (next t m .link .exchange) _ (call-kept t (sound-inside t w) (numbersOf x) (g .numbers) m)
 
 -- ---- any calls
 
 pub distinct : (t : Track) (w : Reached t) → w .setup .last ≤ 65535 → Distinct t
 distinct t w fits =
-    by-calls Distinct (λ v r m g. record { fits = last-next v r m g; apart = apart-next v r m g }) t w
-    (record { fits = fits; apart = λ p q pw qw ne up uq. absurd (up refl) })
+    by-calls Distinct (λ v r m g. record { numbers = numbers-next v r m g; apart = apart-next v r m g }) t w
+    (record { numbers = numbers-fresh (w .setup .last) fits; apart = λ p q pw qw ne up uq. absurd (up refl) })
 
 used-read : (t : Track) (w : Reached t) (p : ℕ) → p < 4 → inUse (ownOf (t .link) p) ≡ true → Used t p
 used-read t w p within u e = false≢true (sym (ap inUse (no-place-exactly t w p within .1 e)) ∙ u)

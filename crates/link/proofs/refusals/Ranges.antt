@@ -13,6 +13,7 @@ use Rattle.settings.specs.Terms.{termsInRange}
 use Rattle.settings.proofs.Panels.{in-between}
 use Rattle.line.specs.Range.{lineInRange}
 use Rattle.line.proofs.Ranges.{range-exactly}
+use Rattle.reports.proofs.Waiting.{reports-fit-exactly}
 use Rattle.exchange.proofs.Ranges.{sending-fits-exactly, exchange-fits-exactly}
 use Rattle.exchange.specs.Range.{exchangeInRange}
 use Rattle.link.specs.Setup.{settingsInRange}
@@ -79,6 +80,7 @@ link-fits u =
             own = y .own;
             incoming = y .incoming;
             sending = y .sending;
+            waiting = y .waiting;
           },
       λ f.
           a .1 (
@@ -87,7 +89,7 @@ link-fits u =
               settings-fit (u .settings) .1 (f .settings),
               c .1 (
                 range-exactly (u .line) .1 (f .line),
-                exchange-fits-exactly x .1 (record { own = f .own; incoming = f .incoming; sending = f .sending }),
+                exchange-fits-exactly x .1 (record { own = f .own; incoming = f .incoming; sending = f .sending; waiting = f .waiting }),
               ),
             ),
           ),
@@ -100,5 +102,6 @@ ranges-exactly = record {
   own = own-fits-exactly;
   incoming = incoming-fits-exactly;
   sending = sending-fits-exactly;
+  reports = reports-fit-exactly;
   all = link-fits;
 }

@@ -6,7 +6,7 @@ use mathlib.Core.List.{List, [], _++_}
 use mathlib.Core.Logic.{_≢_}
 use native.Mathlib.Omega.{arith}
 use lib.Dec.{ltb}
-use lib.ListN.{length, drop, length-append, length-drop}
+use lib.ListN.{length, drop, length-append, length-take, length-drop}
 use lib.Seq.{length-take-le, drop-at}
 use borrow.Author.Tests.{ltb-true, ltb-false}
 use Rattle.wire.specs.Lent.{onFront}
@@ -31,6 +31,7 @@ use Rattle.line.specs.declared.step.Out.{Out}
 use Rattle.line.specs.declared.step.Out.the-variants as out
 use Rattle.line.specs.declared.step.Told.{Told}
 use Rattle.line.specs.declared.step.Told.the-variants as told
+use Rattle.exchange.specs.Reports.{reportHeader, reportBody}
 use Rattle.exchange.specs.Send.{outgoingOf}
 use Rattle.exchange.specs.Request.{lends as lendsTo}
 use Rattle.exchange.specs.declared.Outgoing.{Outgoing}
@@ -83,9 +84,14 @@ cut-most h n k room (cut.Block of start size) e =
     (omega (arith, read-most room message.Send start size, cut-blocks h of n k start size e .most))
 cut-most h n k room cut.NoBlock e = omega arith
 
-block-in-most : (g : Outgoing) (k : ℕ) (room : List ℕ) → length (blockIn g k room) ≤ 257
-block-in-most outgoing.Nothing k room = omega arith
-block-in-most (outgoing.Message h n) k room = cut-most h n k room (cutOf h n k) refl
+-- a report has twelve data bytes
+report-most : (shown : List ℕ) → length (reportBody shown) ≤ 244
+report-most shown = omega (arith, length-take 10 shown)
+
+block-in-most : (device : ℕ) (shown : List ℕ) (g : Outgoing) (k : ℕ) (room : List ℕ) → length (blockIn device shown g k room) ≤ 257
+block-in-most device shown outgoing.Nothing k room = omega arith
+block-in-most device shown (outgoing.Message h n) k room = cut-most h n k room (cutOf h n k) refl
+block-in-most device shown (outgoing.Report f n) k room = block-most (reportHeader device f n) (reportBody shown) (report-most shown)
 
 -- ---- the output
 
@@ -136,7 +142,7 @@ module _ (u : Link) (room o : List ℕ) where
       let enough = long-enough (byte b fits) o refl long in
       let few = step-wrote false (byteStep u b) enough in
       by-byte (λ p l. WroteBy l) u (byteStep u b) room o (λ e. few) (λ c e. few)
-      (λ e. written (blockBytes u room) o (block-in-most (outgoingOf (u .exchange)) (u .block) room) enough)
+      (λ e. written (blockBytes u room) o (block-in-most (u .settings .terms .device) (u .exchange .reports .shown) (outgoingOf (u .exchange)) (u .block) room) enough)
   wrote-behind tick long = step-wrote true (tickStep u) (long-enough tick o refl long)
   wrote-behind drained long = step-wrote false (drainedStep u) (long-enough drained o refl long)
   wrote-behind (request r) long =

@@ -17,6 +17,7 @@ use Rattle.line.specs.declared.phase.Phase.the-variants.{Idle, WaitEot}
 use Rattle.line.specs.declared.step.Out.the-variants as out
 use Rattle.line.specs.declared.step.Told.the-variants as told
 use Rattle.exchange.specs.Request.{Requesting, Request, answerOf, lends}
+use Rattle.exchange.specs.Reports.{sameMessage}
 use Rattle.exchange.specs.BeingSent.{Starts}
 use Rattle.exchange.specs.declared.Exchange.{Exchange}
 use Rattle.exchange.specs.declared.Asked.{Asked}
@@ -79,7 +80,7 @@ module _ (s : Settings) (x : Exchange) (k : ℕ) (room rs o : List ℕ) (long : 
   asked-said =
       ap saidBy takes-its-course
       ∙ course-said (unit s Idle rs x k) out.Nothing told.Nothing (untold (answer .answer .exchange) note.Nothing) (Taken p) (answer .room) o (carried (lineAt true Idle) 1)
-      (λ i. courierBy (begins .before i) (begins .after i) told.Nothing (lineAt false Idle) k)
+      (λ i. courierBy (sameMessage (x .sending) (answer .answer .exchange .sending)) (begins .before i) (begins .after i) told.Nothing (lineAt false Idle) k)
 
 -- ---- the send area
 

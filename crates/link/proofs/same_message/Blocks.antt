@@ -133,9 +133,9 @@ module _ (h : Header) (d : List ℕ) (i : InRange h) (short : length d ≤ messa
     data-bytes b = subst Bytes (sym data-is) (part-bytes (partStart k) (partStart k + partLength (length d) k) d b)
 
     -- where the send area begins with the message, the block that goes out is its block k
-    pub block-out : (room : List ℕ) → length room ≡ 36864 → front room Send (length d) ≡ d
-        → blockIn (Message h (length d)) k room ≡ blockOf (headerAt h (length d) k) (dataIn h d k)
-    block-out room whole starts =
+    pub block-out : (device : ℕ) (shown room : List ℕ) → length room ≡ 36864 → front room Send (length d) ≡ d
+        → blockIn device shown (Message h (length d)) k room ≡ blockOf (headerAt h (length d) k) (dataIn h d k)
+    block-out device shown room whole starts =
         let c = cut-blocks h (headerAt h (length d) k) (length d) k (partStart k) (partLength (length d) k) there-is in
         ap (λ (z : Cut). bytesBy z room) there-is
         ∙ ap (blockOf (headerAt h (length d) k))

@@ -1,6 +1,6 @@
 -- A call on a unit whose numbers are in their ranges goes through, and says what its course puts out. Assumes nothing.
 use Prim.Native.Nat.{ℕ, zero, suc, _+_, _≤_, _<_}
-use mathlib.Core.Path.{_≡_, refl, ap, _∙_}
+use mathlib.Core.Path.{_≡_, refl, sym, ap, _∙_}
 use mathlib.Core.Bool.{Bool, true, false, cond}
 use mathlib.Core.List.{List, []}
 use native.Mathlib.Omega.{arith}
@@ -14,6 +14,7 @@ use Rattle.settings.specs.Panel.{between}
 use Rattle.settings.specs.Timer.{ticked as ticked'}
 use Rattle.settings.specs.declared.panel.Ticks.{Ticks}
 use Rattle.settings.specs.declared.timer.Timer.the-variants.{RunsOut, Runs}
+use Rattle.settings.specs.declared.terms.Terms.{Terms}
 use Rattle.settings.specs.declared.limits.Limits.{Limits}
 use Rattle.line.specs.Line.{lineAt, goes, stays, eotTick, ackTick, lengthTick, bodyTick, Heard, heard, byteOf, tickOf as lineTick, settleIdle, settleOf}
 use Rattle.line.specs.Range.{waitInRange, arrivalInRange, bodyInRange, phaseInRange}
@@ -30,7 +31,7 @@ use Rattle.exchange.specs.Tick.{tickOf}
 use Rattle.exchange.specs.Range.{exchangeInRange}
 use Rattle.exchange.specs.Request.{sendingBy}
 use Rattle.exchange.specs.Assembly.{passes}
-use Rattle.exchange.proofs.BeingSent.{sending-ends}
+use Rattle.exchange.proofs.Same.{message-same}
 use Rattle.exchange.specs.declared.Sending.{Sending}
 use Rattle.exchange.specs.declared.Exchange.{Exchange}
 use Rattle.link.specs.Setup.{settingsInRange}
@@ -72,9 +73,11 @@ course-said u p t m k room o c e =
 -- where no other message is being sent than before, and what was told is no acknowledgement, the courier leaves all as it is
 pub courier-rests : (before after : Sending) (t : Told) (l : Line) (k : ℕ) (room : List ℕ) → after ≡ before → goesOn t l k ≡ carried l k
     → courierOf before after t l k room ≡ carried l k
-courier-rests before after t l k room same e = ap (λ (z : Sending). courierOf before z t l k room) same ∙ by (sendingBy before)
+courier-rests before after t l k room same e =
+    ap (λ (z : Sending). courierOf before z t l k room) same
+    ∙ ap (λ (b : Bool). courierBy b (sendingBy before) (sendingBy before) t l k) (message-same before before refl) ∙ by (sendingBy before)
   where
-    by : (b : Bool) → courierBy b b t l k ≡ carried l k
+    by : (b : Bool) → courierBy true b b t l k ≡ carried l k
     by true = e
     by false = refl
 
@@ -83,6 +86,11 @@ courier-rests before after t l k room same e = ap (λ (z : Sending). courierOf b
 -- a unit from its parts; nothing is held
 abbrev pub unit : Settings → Phase → List ℕ → Exchange → ℕ → Link
 unit s p rs x k = record { settings = s; line = lineAt false p; received = rs; exchange = x; block = k }
+
+-- one that 1, 2 and 3 do not refuse
+pub opens : (u : Link) (room o : List ℕ) → length room ≡ 36864 → 257 ≤ length o → linkInRange u ≡ true → gateOf u (length room) (length o) ≡ Open
+unfolding gateOf outputShort roomFits
+opens u room o whole long ranged = simp (le-ltb (length o) 257 long, eq-eqb (length room) 36864 whole, ranged)
 
 -- its numbers are in their ranges but for the line's, and the room is as large as it must be
 pub record Sound (s : Settings) (x : Exchange) (k : ℕ) (room : List ℕ) : Type 0 where
@@ -97,9 +105,9 @@ pub record Sound (s : Settings) (x : Exchange) (k : ℕ) (room : List ℕ) : Typ
 
 module _ (s : Settings) (x : Exchange) (k : ℕ) (room o : List ℕ) (long : 257 ≤ length o) (g : Sound s x k room) where
   open-gate : (p : Phase) (rs : List ℕ) → phaseInRange p ≡ true → gateOf (unit s p rs x k) (length room) (length o) ≡ Open
-  unfolding gateOf outputShort roomFits linkInRange between
+  unfolding linkInRange between
   open-gate p rs e =
-      simp (le-ltb (length o) 257 long, eq-eqb (length room) 36864 (g .whole), le-leb 1 k (g .least), le-leb k mostBlocks (g .most), g .settings, g .exchange, e)
+      opens (unit s p rs x k) room o (g .whole) long (simp (le-leb 1 k (g .least), le-leb k mostBlocks (g .most), g .settings, g .exchange, e))
 
   pub goes-through : (p : Phase) (rs : List ℕ) (l : Left) → phaseInRange p ≡ true → gated (unit s p rs x k) room o l ≡ l
   goes-through p rs l e = ap (λ (g : Gate). through g (unit s p rs x k) room o l) (open-gate p rs e)
@@ -129,6 +137,10 @@ quiet-said s x k room o p q c rs ss e =
 
 -- ---- ticks
 
+-- in n ticks no other message is being sent than before: none of them lets a report start
+abbrev pub Still : Terms → Exchange → ℕ → Type 0
+Still c x n = (i : ℕ) → i ≤ n → passes c x i .sending ≡ x .sending
+
 -- Phases at which n ticks do no more than count: from the first to the last of them no timer runs out.
 pub record Counts (c : Limits) (phase : ℕ → Phase) (n : ℕ) : Type 0 where
   pub ranged : (i : ℕ) → i ≤ n → phaseInRange (phase i) ≡ true
@@ -143,35 +155,39 @@ module _ (s : Settings) (x : Exchange) (k : ℕ) (room o : List ℕ) (long : 257
 
   module _ (phase : ℕ → Phase) (rs : List ℕ) where
     -- they put out and note nothing
-    tick-said : (m n : ℕ) → Counts (s .limits) phase (suc n) → ticks o (at (phase n) rs m) ≡ said (at (phase (suc n)) rs (suc m)) []
+    tick-said : (m n : ℕ) → Counts (s .limits) phase (suc n) → Still (s .terms) x (suc m) → ticks o (at (phase n) rs m) ≡ said (at (phase (suc n)) rs (suc m)) []
     unfolding passes
-    tick-said m n c =
+    tick-said m n c still =
         let y : Exchange = passes (s .terms) x m in
         let q : Phase = phase (suc n) in
         let after : Midway = ticked (untold y note.Nothing) (tickOf (s .terms) y) in
         ticks-as s y k room o long (g m) (phase n) rs (c .ranged n (omega arith))
         ∙ ap (λ (z : Step). saidBy (stepped true (unit s (phase n) rs y k) (heard z rs) room o)) (c .counted n (omega arith))
         ∙ course-said (unit s q rs y k) Nothing told.Nothing after Done room o (carried (lineAt false q) k)
-        (courier-rests (y .sending) (after .exchange .sending) told.Nothing (lineAt false q) k room (sending-ends (s .terms) y .ticked) refl)
+        (courier-rests (y .sending) (after .exchange .sending) told.Nothing (lineAt false q) k room
+        (still (suc m) (omega arith) ∙ sym (still m (omega arith))) refl)
         ∙ ap (λ (z : Step). said (endOf (withLine (unit s q rs (after .exchange) k) (z .line)) room) (codes Nothing (z .out))) (c .rests (suc n))
 
     fewer : (n : ℕ) → Counts (s .limits) phase (suc n) → Counts (s .limits) phase n
     fewer n c = record { ranged = λ i l. c .ranged i (omega arith); counted = λ i l. c .counted i (omega arith); rests = c .rests }
 
-    pub waits-said : (m n : ℕ) → Counts (s .limits) phase n → waits o (at (phase 0) rs m) n ≡ said (at (phase n) rs (m + n)) []
+    pub waits-said : (m n : ℕ) → Counts (s .limits) phase n → Still (s .terms) x (m + n) → waits o (at (phase 0) rs m) n ≡ said (at (phase n) rs (m + n)) []
     unfolding waits
-    waits-said m zero c = let e : m ≡ m + 0 = omega arith in ap (λ (t : ℕ). said (at (phase 0) rs t) []) e
-    waits-said m (suc n) c =
+    waits-said m zero c still = let e : m ≡ m + 0 = omega arith in ap (λ (t : ℕ). said (at (phase 0) rs t) []) e
+    waits-said m (suc n) c still =
         let e : suc (m + n) ≡ m + suc n = omega arith in
-        ap (λ (z : Said). behind z (ticks o (z .end))) (waits-said m n (fewer n c)) ∙ tick-said (m + n) n c
+        ap (λ (z : Said). behind z (ticks o (z .end))) (waits-said m n (fewer n c) (λ i l. still i (omega arith)))
+        ∙ tick-said (m + n) n c (λ i l. still i (omega arith))
         ∙ ap (λ (t : ℕ). said (at (phase (suc n)) rs t) []) e
 
     -- so what comes behind them comes to this end n ticks on
-    pub heard-late : (m n b : ℕ) → Counts (s .limits) phase n → hearsLate o n (at (phase 0) rs m) b ≡ hears o (at (phase n) rs (m + n)) b
-    heard-late m n b c = ap (λ (z : Said). behind z (hears o (z .end) b)) (waits-said m n c)
+    pub heard-late : (m n b : ℕ) → Counts (s .limits) phase n → Still (s .terms) x (m + n)
+        → hearsLate o n (at (phase 0) rs m) b ≡ hears o (at (phase n) rs (m + n)) b
+    heard-late m n b c still = ap (λ (z : Said). behind z (hears o (z .end) b)) (waits-said m n c still)
 
-    pub drained-late : (m n : ℕ) → Counts (s .limits) phase n → drainsLate o n (at (phase 0) rs m) ≡ drains o (at (phase n) rs (m + n))
-    drained-late m n c = ap (λ (z : Said). behind z (drains o (z .end))) (waits-said m n c)
+    pub drained-late : (m n : ℕ) → Counts (s .limits) phase n → Still (s .terms) x (m + n)
+        → drainsLate o n (at (phase 0) rs m) ≡ drains o (at (phase n) rs (m + n))
+    drained-late m n c still = ap (λ (z : Said). behind z (drains o (z .end))) (waits-said m n c still)
 
 -- ---- at each phase
 

@@ -24,9 +24,11 @@ use Rattle.line.specs.declared.step.Out.the-variants.{Nothing}
 use Rattle.line.specs.declared.step.Told.the-variants as told
 use Rattle.exchange.specs.Send.{outgoingAt, outgoingOf, sentOf}
 use Rattle.exchange.specs.Request.{sendingBy, isSending}
+use Rattle.exchange.specs.Reports.{sameMessage}
 use Rattle.exchange.specs.Judge.{judgeOf}
-use Rattle.exchange.specs.Assembly.{headerIn, dataIn, Receiver, passes, rests, received}
-use Rattle.exchange.proofs.BeingSent.{sending-ends}
+use Rattle.exchange.specs.Assembly.{headerIn, dataIn, Receiver, passes, rests, received, ticksBefore}
+use Rattle.exchange.proofs.Same.{message-same}
+use Rattle.exchange.proofs.Passing.{sending-stays}
 use Rattle.exchange.specs.declared.Sending.{Sending}
 use Rattle.exchange.specs.declared.Sending.the-variants as sending
 use Rattle.exchange.specs.declared.Exchange.{Exchange}
@@ -35,14 +37,14 @@ use Rattle.exchange.specs.declared.Outgoing.the-variants.{Message}
 use Rattle.link.specs.Courier.{carried as carrying, courierBy}
 use Rattle.link.specs.Run.{nextIn, hasNext, untold, changedTo, puttingOut, acknowledged, carriedBy, codes, closed, course, blockIn}
 use Rattle.link.specs.History.{Track}
-use Rattle.link.specs.SameMessage.{End, endOf, Said, noting, noted, saidBy, hearsAll, drainsLate, Pair, pair, Pauses, carried, carries, total, ticksIn, BlockOf, InTime}
+use Rattle.link.specs.SameMessage.{End, endOf, Said, noting, noted, saidBy, hearsAll, drainsLate, Pair, pair, Pauses, carried, carries, total, ticksIn, ticksOut, BlockOf, InTime}
 use Rattle.link.specs.declared.Carried.{Carried}
 use Rattle.link.specs.declared.Midway.{Midway}
 use Rattle.link.specs.declared.Note.the-variants as note
 use Rattle.link.specs.declared.Settings.{Settings}
 use Rattle.link.specs.declared.Link.{Link}
 use Rattle.link.specs.declared.Outcome.the-variants.{Done}
-use Rattle.link.proofs.same_message.Calls.{said, leaving-said, course-said, unit, Sound, says, drains-as, quiet-said, heard-late, drained-late, draining-counts, eot-counts, ack-counts}
+use Rattle.link.proofs.same_message.Calls.{said, leaving-said, course-said, unit, Sound, says, drains-as, quiet-said, Still, heard-late, drained-late, draining-counts, eot-counts, ack-counts}
 use Rattle.link.proofs.same_message.Reaches.{Reaches, reaches-heard, reaches-drained}
 use Rattle.link.proofs.same_message.PutsOut.{later-out, outgoing-out, sent-out}
 use Rattle.link.proofs.same_message.Hears.{one-heard, overwritten, ack-of, enq-heard, block-heard}
@@ -55,10 +57,11 @@ sends-one : (z : Sending) (x : Exchange) (h : Header) (n : ℕ) → outgoingAt z
 sends-one sending.Nothing x h n e = absurd (false≢true (cc e))
 sends-one (sending.Primary p m) x h n e = refl
 sends-one (sending.Reply p f m) x h n e = refl
+sends-one (sending.Report f m) x h n e = refl
 
--- at block k, m ticks on
+-- at block k, m ticks on; its message goes on
 module _ (o : List ℕ) (long : 257 ≤ length o) (s : Settings) (x : Exchange) (k : ℕ) (room rs : List ℕ)
-    (g : (n : ℕ) → Sound s (passes (s .terms) x n) k room) (m n : ℕ) where
+    (g : (n : ℕ) → Sound s (passes (s .terms) x n) k room) (still : (n : ℕ) → passes (s .terms) x n .sending ≡ x .sending) (m n : ℕ) where
   -- the transactions n ticks later
   abbrev then : Exchange
   then = passes (s .terms) x (m + n)
@@ -66,20 +69,21 @@ module _ (o : List ℕ) (long : 257 ≤ length o) (s : Settings) (x : Exchange) 
   -- "EOT puts out the whole block."
   eot-heard : n ≤ s .limits .t2 .0
       → hearsAll o (λ i. n) (endOf (unit s (WaitEot 0 0) rs (passes (s .terms) x m) k) room) (EOT ∷ [])
-      ≡ said (endOf (unit s (Draining 0) rs (puttingOut (hasNext (unit s Idle rs then k)) then) k) room) (blockIn (outgoingOf then) k room)
+      ≡ said (endOf (unit s (Draining 0) rs (puttingOut (hasNext (unit s Idle rs then k)) then) k) room)
+      (blockIn (s .terms .device) (then .reports .shown) (outgoingOf then) k room)
   unfolding eotByte
   eot-heard fits =
       let c = eot-counts (s .limits) n (g 0 .t2) fits in
       one-heard o (λ i. n) _ EOT _
-      (heard-late s x k room o long g (λ i. WaitEot i 0) rs m n EOT c
+      (heard-late s x k room o long g (λ i. WaitEot i 0) rs m n EOT c (λ i l. still i)
       ∙ says s then k room o long (g (m + n)) (WaitEot n 0) rs EOT _ (c .ranged n (omega arith)) refl
       ∙ (let after : Exchange = puttingOut (hasNext (unit s Idle rs then k)) then in
-      leaving-said (blockIn (outgoingOf then) k room) (unit s (Draining 0) rs after k) Done (untold after note.Nothing) room o))
+      leaving-said (blockIn (s .terms .device) (then .reports .shown) (outgoingOf then) k room) (unit s (Draining 0) rs after k) Done (untold after note.Nothing) room o))
 
   -- "drained starts the wait for ACK"
   drained : drainsLate o n (endOf (unit s (Draining 0) rs (passes (s .terms) x m) k) room) ≡ said (endOf (unit s (WaitAck 0 0) rs then k) room) []
   drained =
-      drained-late s x k room o long g (λ i. Draining 0) rs m n (draining-counts (s .limits) n)
+      drained-late s x k room o long g (λ i. Draining 0) rs m n (draining-counts (s .limits) n) (λ i l. still i)
       ∙ drains-as s then k room o long (g (m + n)) (Draining 0) rs refl ∙ quiet-said s then k room o (Draining 0) (WaitAck 0 0) Nothing rs rs refl
 
   module _ (fits : n ≤ s .limits .t2 .0) where
@@ -93,7 +97,7 @@ module _ (o : List ℕ) (long : 257 ≤ length o) (s : Settings) (x : Exchange) 
         let u : Link = unit s Idle rs then k in
         let q = ack-counts (s .limits) n (g 0 .t2) fits in
         one-heard o (λ i. n) _ ACK _
-        (heard-late s x k room o long g (λ i. WaitAck i 0) rs m n ACK q
+        (heard-late s x k room o long g (λ i. WaitAck i 0) rs m n ACK q (λ i l. still i)
         ∙ says s then k room o long (g (m + n)) (WaitAck n 0) rs ACK _ (q .ranged n (omega arith)) refl
         ∙ ap (λ (y : Midway). saidBy (course u Nothing told.Sent y Done room o)) made
         ∙ course-said u Nothing told.Sent z Done room o c e)
@@ -106,34 +110,40 @@ module _ (o : List ℕ) (long : 257 ≤ length o) (s : Settings) (x : Exchange) 
       unfolding acknowledged holding settleIdle
       next-asked e =
           ack-heard (untold then note.Nothing) (carrying (lineAt true Idle) (k + 1)) (ap (λ (t : Bool). acknowledged t then note.Nothing) e)
-          (ap (λ (t : Bool). courierBy t t told.Sent (lineAt false Idle) k) sends)
+          (λ i. courierBy (message-same (then .sending) (then .sending) refl i) (sends i) (sends i) told.Sent (lineAt false Idle) k)
 
-      -- behind the last one no message is being sent
-      all-sent : hasNext (unit s Idle rs then k) ≡ false
+      -- behind the last one no message is being sent, where no report starts
+      all-sent : sentOf then .exchange .sending ≡ sending.Nothing → hasNext (unit s Idle rs then k) ≡ false
           → hearsAll o (λ i. n) (endOf (unit s (WaitAck 0 0) rs (passes (s .terms) x m) k) room) (ACK ∷ [])
           ≡ said (endOf (unit s Idle rs (sentOf then .exchange) 1) room) []
       unfolding acknowledged settleIdle
-      all-sent e =
+      all-sent over e =
           ack-heard (changedTo (sentOf then) note.Nothing) (carrying (lineAt false Idle) 1) (ap (λ (t : Bool). acknowledged t then note.Nothing) e)
-          (λ i. courierBy (sends i) (sendingBy (sending-ends (s .terms) then .acknowledged i)) told.Sent (lineAt false Idle) k)
+          (λ i. courierBy (sameMessage (then .sending) (sentOf then .exchange .sending)) (sends i) (sendingBy (over i)) told.Sent (lineAt false Idle) k)
 
 -- ---- the receiver
 
-module _ (o : List ℕ) (long : 257 ≤ length o) (t : Settings) (y : Exchange) (room rs : List ℕ) (g : (n : ℕ) → Sound t (passes (t .terms) y n) 1 room) where
-  -- a block of header h and data d, m ticks on: it is acknowledged and judged, its ticks later
-  taken-up : (w : ℕ → ℕ) (m : ℕ) (h : Header) (d : List ℕ) → isSending y ≡ false → length rs ≡ 256 → InRange h → Bytes d → length d ≤ 244
+module _ (o : List ℕ) (long : 257 ≤ length o) (t : Settings) (y : Exchange) (room rs : List ℕ) (g : (n : ℕ) → Sound t (passes (t .terms) y n) 1 room)
+    (most : ℕ) (still : Still (t .terms) y most) where
+  -- a block of header h and data d, m ticks on: it is acknowledged and judged, its ticks later; no message starts or ends with it
+  taken-up : (w : ℕ → ℕ) (m : ℕ) (h : Header) (d : List ℕ)
+      → judgeOf (t .terms) (passes (t .terms) y (m + total w (1 + (10 + length d) + 2))) (headerBytes h) d room .answer .exchange .sending ≡ y .sending
+      → m + total w (1 + (10 + length d) + 2) ≤ most → length rs ≡ 256 → InRange h → Bytes d → length d ≤ 244
       → w 0 ≤ t .limits .t2 .0 → ((i : ℕ) → 1 ≤ i → i < 1 + (10 + length d) + 2 → w i ≤ t .limits .t1 .0)
       → hearsAll o w (endOf (unit t (WaitLength 0) rs (passes (t .terms) y m) 1) room) (blockOf h d)
       ≡ ack-of t (overwritten rs (headerBytes h ++ d)) 1 (judgeOf (t .terms) (passes (t .terms) y (m + total w (1 + (10 + length d) + 2))) (headerBytes h) d room)
-  taken-up w m h d idle fits i b short first quick =
+  taken-up w m h d kept early fits i b short first quick =
       let bs : List ℕ = headerBytes h ++ d in
       let n = block-length h d in
-      block-heard o long t y 1 room g w m rs bs idle fits (omega arith) (omega arith) (block-bytes h d i b) first
+      let rest : List ℕ = drop (length bs) rs in
+      let then : ℕ → Exchange = λ j. passes (t .terms) y (m + total w (1 + j + 2)) in
+      block-heard o long t y 1 room g most still w m rs bs
+      ((λ z. judgeOf (t .terms) (then (n z)) (ten-read h d rest z) (data-read h d rest z) room .answer .exchange .sending) ∙ kept)
+      (omega (arith, ap (λ (j : ℕ). total w (1 + j + 2)) n)) fits (omega arith) (omega arith) (block-bytes h d i b) first
       (λ j least less. quick j least (omega arith))
       ∙ (λ z.
       ack-of t (overwritten rs bs) 1
-      (judgeOf (t .terms) (passes (t .terms) y (m + total w (1 + n z + 2)))
-      (ten-read h d (drop (length bs) rs) z) (data-read h d (drop (length bs) rs) z) room))
+      (judgeOf (t .terms) (then (n z)) (ten-read h d rest z) (data-read h d rest z) room))
 
 -- ---- both
 
@@ -163,6 +173,11 @@ unfoldable pub spent : (ℕ → Pauses) → ℕ → ℕ
 spent w zero = 0
 spent w (suc k) = spent w k + w (suc k) .eot + w (suc k) .draining + w (suc k) .ack
 
+pub spent-all : (w : ℕ → Pauses) (k : ℕ) → spent w k ≡ ticksBefore (ticksOut w) k
+unfolding spent ticksBefore
+spent-all w zero = refl
+spent-all w (suc k) = omega (arith, spent-all w k)
+
 -- All blocks of a message were carried: it is sent, the receiver judged them all, both lines are idle, and nothing is on the line; and
 -- calls left both ends.
 pub record Arrived (here there : Track) (h : Header) (d : List ℕ) (w : ℕ → Pauses) (s : Settings) (x : Exchange) (sent kept : List ℕ) (t : Settings) (r : Receiver) (p : Pair) : Type 0 where
@@ -182,7 +197,12 @@ module _ (o : List ℕ) (long : 257 ≤ length o) (h : Header) (d : List ℕ) (i
     (t : Settings) (r : Receiver) (rs : List ℕ) (fits : length rs ≡ 256) (w : ℕ → Pauses)
     (sounds : (k : ℕ) → k < blockCount (length d) → (n : ℕ)
     → Sound t (passes (t .terms) (received (t .terms) (ticksIn d w) r h d k .exchange) n) 1 (received (t .terms) (ticksIn d w) r h d k .room))
-    (idle : (k : ℕ) → isSending (received (t .terms) (ticksIn d w) r h d k .exchange) ≡ false) (time : InTime s t d w) where
+    -- no report starts meanwhile, neither where the message comes in nor behind its last ACK
+    (still : (k : ℕ) → k < blockCount (length d) → Still (t .terms) (received (t .terms) (ticksIn d w) r h d k .exchange) (ticksIn d w (suc k)))
+    (unchanged : (k : ℕ) → k < blockCount (length d)
+    → received (t .terms) (ticksIn d w) r h d (suc k) .exchange .sending ≡ received (t .terms) (ticksIn d w) r h d k .exchange .sending)
+    (over : sentOf (passes (s .terms) x (spent w (blockCount (length d)))) .exchange .sending ≡ sending.Nothing)
+    (time : InTime s t d w) where
   -- what the receiver has of blocks 1 to k
   abbrev got : ℕ → Receiver
   got k = received (t .terms) (ticksIn d w) r h d k
@@ -201,6 +221,14 @@ module _ (o : List ℕ) (long : 257 ≤ length o) (h : Header) (d : List ℕ) (i
 
   sends : (k n : ℕ) → isSending (passes (s .terms) (out k) n) ≡ true
   sends k n = let y : Exchange = passes (s .terms) (out k) n in sends-one (y .sending) y h (length d) (goes-on k n)
+
+  sends-on : (k n : ℕ) → passes (s .terms) (out k) n .sending ≡ out k .sending
+  unfolding passes
+  sends-on k n = sending-stays (s .terms) (out k) n (sends k 0)
+
+  starts-on : (n : ℕ) → passes (s .terms) x n .sending ≡ x .sending
+  unfolding passes
+  starts-on n = sending-stays (s .terms) x n (sends-one (x .sending) x h (length d) (going 0))
 
   -- the sender with block k + 1 on its way
   sender : ℕ → End
@@ -267,7 +295,8 @@ module _ (o : List ℕ) (long : 257 ≤ length o) (h : Header) (d : List ℕ) (i
 
     asked-so : hearsAll o (λ j. w (suc k) .enq) (receiver k) (ENQ ∷ []) ≡ said (asked k) (EOT ∷ [])
     unfolding receiver
-    asked-so = enq-heard o long t (got k .exchange) 1 (got k .room) (sounds k less) (array k) (w (suc k) .enq)
+    asked-so =
+        enq-heard o long t (got k .exchange) 1 (got k .room) (sounds k less) (ticksIn d w (suc k)) (still k less) (array k) (w (suc k) .enq) (omega arith)
 
     block-so : hearsAll o (λ j. w (suc k) .eot) (sender k) (EOT ∷ []) ≡ said (draining k) (bytes k)
     unfolding sender
@@ -275,20 +304,27 @@ module _ (o : List ℕ) (long : 257 ≤ length o) (h : Header) (d : List ℕ) (i
         let n : ℕ = suc k in
         let m : ℕ = spent w k + w n .eot in
         let y : Exchange = passes (s .terms) x m in
-        eot-heard o long s x n sent kept sender-sound (spent w k) (w n .eot) (time .eot n is)
-        ∙ (λ z. said (endOf (unit s (Draining 0) kept (puttingOut (follows y (going m) z) y) n) sent) (blockIn (going m z) n sent))
+        eot-heard o long s x n sent kept sender-sound starts-on (spent w k) (w n .eot) (time .eot n is)
+        ∙ (λ z. said (endOf (unit s (Draining 0) kept (puttingOut (follows y (going m) z) y) n) sent)
+        (blockIn (s .terms .device) (y .reports .shown) (going m z) n sent))
         ∙ (λ z.
         said (endOf (unit s (Draining 0) kept (sym (later-out (s .terms) x (more k) m) z) n) sent)
-        (block-out h d i short n (omega arith) less sent (sender-sound 0 .whole) starts z))
+        (block-out h d i short n (omega arith) less (s .terms .device) (y .reports .shown) sent (sender-sound 0 .whole) starts z))
 
     taken-so : hearsAll o (w (suc k) .byte) (asked k) (bytes k) ≡ taken k
-    unfolding array
+    unfolding array received
     taken-so =
         let n : ℕ = suc k in
         let p : Pauses = w n in
         let y : Receiver = got k in
         let size = data-length h d i short n (omega arith) less in
-        taken-up o long t (y .exchange) (y .room) (array k) (sounds k less) (p .byte) (p .enq) (headerAt h (length d) n) (dataIn h d n) (idle k) (array-fits k (omega arith))
+        taken-up o long t (y .exchange) (y .room) (array k) (sounds k less) (ticksIn d w n) (still k less) (p .byte) (p .enq) (headerAt h (length d) n) (dataIn h d n)
+        (ap
+        (λ (e : ℕ).
+        judgeOf (t .terms) (passes (t .terms) (y .exchange) (p .enq + total (p .byte) (1 + (10 + e) + 2))) (headerIn h d n) (dataIn h d n) (y .room) .answer .exchange .sending)
+        size
+        ∙ unchanged k less)
+        (omega (arith, ap (λ (e : ℕ). total (p .byte) (1 + (10 + e) + 2)) size)) (array-fits k (omega arith))
         (header-in-range h d i short n (omega arith) less) (data-bytes h d i short n (omega arith) less b) (data-most h d i short n (omega arith) less)
         (time .size n is) (λ j least under. time .body n is j least (omega (arith, size)))
         ∙ ap
@@ -298,7 +334,7 @@ module _ (o : List ℕ) (long : 257 ≤ length o) (h : Header) (d : List ℕ) (i
         size
 
     gone-so : drainsLate o (w (suc k) .draining) (draining k) ≡ said (waiting k) []
-    gone-so = drained o long s (out k) (suc k) sent kept (out-sound (more k)) (spent w k + w (suc k) .eot) (w (suc k) .draining)
+    gone-so = drained o long s (out k) (suc k) sent kept (out-sound (more k)) (sends-on k) (spent w k + w (suc k) .eot) (w (suc k) .draining)
 
     -- each but the last has the next behind it
     next-so : suc k < blockCount (length d) → ends k ≡ said (sender (suc k)) (ENQ ∷ [])
@@ -306,7 +342,7 @@ module _ (o : List ℕ) (long : 257 ≤ length o) (h : Header) (d : List ℕ) (i
     next-so behind =
         let m : ℕ = spent w (suc k) in
         let on : more k ≡ true = lt-ltb (suc k) (blockCount (length d)) behind in
-        next-asked o long s (out k) (suc k) sent kept (out-sound (more k)) (spent w k + w (suc k) .eot + w (suc k) .draining) (w (suc k) .ack) (time .ack (suc k) is)
+        next-asked o long s (out k) (suc k) sent kept (out-sound (more k)) (sends-on k) (spent w k + w (suc k) .eot + w (suc k) .draining) (w (suc k) .ack) (time .ack (suc k) is)
         (sends k m) (follows (passes (s .terms) (out k) m) (goes-on k m) ∙ on)
         ∙ (λ z. said (endOf (unit s (WaitEot 0 0) kept (passes (s .terms) (puttingOut (on z) x) m) (add-one (suc k) z)) sent) (ENQ ∷ []))
 
@@ -316,10 +352,12 @@ module _ (o : List ℕ) (long : 257 ≤ length o) (h : Header) (d : List ℕ) (i
     last-so e =
         let m : ℕ = spent w (suc k) in
         let last : more k ≡ false = le-ltb (suc k) (blockCount (length d)) (omega arith) in
-        all-sent o long s (out k) (suc k) sent kept (out-sound (more k)) (spent w k + w (suc k) .eot + w (suc k) .draining) (w (suc k) .ack) (time .ack (suc k) is)
-        (sends k m) (follows (passes (s .terms) (out k) m) (goes-on k m) ∙ last)
-        ∙ ap (λ (y : Exchange). said (idle-end s kept y sent) [])
-        (ap (λ (y : Exchange). sentOf y .exchange) (later-out (s .terms) x (more k) m) ∙ sent-out (s .terms) (passes (s .terms) x m) (more k))
+        let ended : sentOf (passes (s .terms) (out k) m) .exchange ≡ sentOf (passes (s .terms) x m) .exchange =
+        ap (λ (y : Exchange). sentOf y .exchange) (later-out (s .terms) x (more k) m) ∙ sent-out (s .terms) (passes (s .terms) x m) (more k) in
+        all-sent o long s (out k) (suc k) sent kept (out-sound (more k)) (sends-on k) (spent w k + w (suc k) .eot + w (suc k) .draining) (w (suc k) .ack) (time .ack (suc k) is)
+        (sends k m) (ap (λ (y : Exchange). y .sending) ended ∙ ap (λ (j : ℕ). sentOf (passes (s .terms) x (spent w j)) .exchange .sending) e ∙ over)
+        (follows (passes (s .terms) (out k) m) (goes-on k m) ∙ last)
+        ∙ ap (λ (y : Exchange). said (idle-end s kept y sent) []) ended
 
   -- the notes so far
   notes : ℕ → List ℕ

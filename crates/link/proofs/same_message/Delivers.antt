@@ -1,7 +1,7 @@
 -- A primary that is accepted at one end is the same message at the other (`specs/SameMessage.antt`). Assumes nothing.
-use Prim.Native.Nat.{ℕ, _+_, _%_, _≤_, _<_}
+use Prim.Native.Nat.{ℕ, suc, _%_, _≤_, _<_}
 use mathlib.Core.Path.{_≡_, refl, sym, ap, subst, _∙_}
-use mathlib.Core.Bool.{Bool, true, false, cond, not}
+use mathlib.Core.Bool.{Bool, true, false, cond, not, false≢true}
 use mathlib.Core.List.{List, [], _∷_}
 use mathlib.Core.Logic.{_≢_, inl, inr}
 use native.Mathlib.Omega.{arith}
@@ -15,13 +15,14 @@ use Rattle.header.specs.Header.{InRange, headerBytes}
 use Rattle.header.specs.declared.header.Header.{Header}
 use Rattle.header.proofs.Headers.{header-and-back}
 use Rattle.cut.specs.Blocks.{blockCount}
+use Rattle.cut.proofs.Counts.{count-is-fewest}
 use Rattle.room.specs.Room.{front}
 use Rattle.room.specs.declared.Message.the-variants as message
 use Rattle.room.proofs.Keeping.{keeps-only}
 use Rattle.room.proofs.Reading.{front-read}
 use Rattle.line.specs.Codes.{ENQ}
 use Rattle.line.specs.Line.{freshLine}
-use Rattle.line.specs.declared.phase.Phase.the-variants.{Idle, WaitEot}
+use Rattle.line.specs.declared.phase.Phase.the-variants.{WaitEot}
 use Rattle.settings.specs.declared.terms.Terms.{Terms}
 use Rattle.place.specs.Own.{freshOwn, noReply, primaryOf, ended, acknowledged, ownSent, ownTick}
 use Rattle.place.specs.Incoming.{primaryOf as incomingPrimary, incomingIsFree, incomingIsOpen, incomingLength}
@@ -32,6 +33,8 @@ use Rattle.place.specs.declared.Verdict.the-variants.{Sent}
 use Rattle.place.specs.declared.Standing.the-variants.{Open, Given}
 use Rattle.place.proofs.OwnInvariant.{Waits, At}
 use Rattle.place.proofs.OwnAlways.{always}
+use Rattle.table.specs.Own.{ownAt}
+use Rattle.table.specs.Incoming.{incomingAt}
 use Rattle.table.proofs.Giving.{number-given}
 use Rattle.exchange.specs.Exchange.{ownPlace, incomingPlace, putOwn, withSending}
 use Rattle.exchange.specs.Send.{outgoingAt, outgoingOf, endedOwn, sentBy, sentOf}
@@ -41,16 +44,18 @@ use Rattle.exchange.specs.Rules.{Fours}
 use Rattle.exchange.specs.Releases as side
 use Rattle.exchange.specs.Refusals.{OpenRuled, open-0, open-5, open-6, open-7, open-8, numberGiven, Opened}
 use Rattle.exchange.specs.History.{request}
-use Rattle.exchange.specs.Assembly.{Receiver, receiverOf, passes, received, ReadyFor, Assembled}
-use Rattle.exchange.proofs.BeingSent.{sending-ends}
+use Rattle.exchange.specs.Tick.{timedAt}
+use Rattle.exchange.specs.BeingSent.{NoneOrReport, none}
+use Rattle.exchange.specs.Assembly.{Receiver, receiverOf, passes, received, NoneLate, AnyPlace, ReadyFor, Assembled}
 use Rattle.exchange.proofs.Refusing.{request-exactly}
 use Rattle.exchange.proofs.Accepting.{accepted-opens}
 use Rattle.exchange.proofs.Numbering.{read}
-use Rattle.exchange.proofs.Passing.{saved-stays, sending-stays, kept-on}
+use Rattle.exchange.proofs.Passing.{saved-stays, sending-stays, kept-on, by-place}
 use Rattle.exchange.proofs.SavedHeader.{sent-saves}
 use Rattle.exchange.proofs.Assembling.{assembly-of-cut}
 use Rattle.exchange.specs.declared.Sending.{Sending as Sending'}
 use Rattle.exchange.specs.declared.Sending.the-variants as sending
+use Rattle.exchange.specs.declared.Outbox.{Outbox}
 use Rattle.exchange.specs.declared.Exchange.{Exchange}
 use Rattle.exchange.specs.declared.OwnReading.the-variants as own
 use Rattle.exchange.specs.declared.IncomingReading.{IncomingReading}
@@ -65,16 +70,19 @@ use Rattle.link.specs.Call.{openCall}
 use Rattle.link.specs.Reading.{ownOf, messageBy}
 use Rattle.link.specs.History.{Track, exchangeTrack, termsIn}
 use Rattle.link.specs.Inside.{Reached}
-use Rattle.link.specs.SameMessage.{End, endOf, Said, saidBy, Pair, Pauses, carries, puts, outward, ticksIn, ticksInAll, InTime, Linked, Lent, Typed, Again, AsAsked, Awaited, laterBy, Delivered, GoesOut, SameMessage}
+use Rattle.link.specs.SameMessage.{End, endOf, Said, saidBy, Pair, Pauses, carries, puts, outward, ticksIn, ticksInAll, ticksOutAll, InTime, Linked, Lent, Typed, Again, AsAsked, Awaited, laterBy, Delivered, GoesOut, SameMessage}
 use Rattle.link.specs.declared.Settings.{Settings}
 use Rattle.link.specs.declared.Outcome.the-variants.{Taken}
 use Rattle.link.specs.declared.Link.{Link}
 use Rattle.link.proofs.inside.Places.{exchange-inside, places-inside}
 use Rattle.link.proofs.numbers.Kept.{numbers-kept}
-use Rattle.link.proofs.same_message.Calls.{said, unit, Sound, waits-said, idle-counts}
+use Rattle.link.proofs.same_message.Calls.{said, unit, Sound}
 use Rattle.link.proofs.same_message.Reaches.{Reaches, reaches-itself, reaches-asked, meet-again}
-use Rattle.link.proofs.same_message.Carries.{idle-end, spent, Arrived, all-carried}
-use Rattle.link.proofs.same_message.Stands.{Stands, stands-next, stands-later, stands-out, stands-fours, stands-received, received-rests, received-size, settings-fit, settings-are, stands, array-fits, sound, not-sending, idles}
+use Rattle.link.proofs.same_message.Carries.{idle-end, spent, spent-all, Arrived, all-carried}
+use Rattle.link.proofs.same_message.Stands.{Stands, stands-next, stands-later, stands-out, stands-fours, stands-received, received-size, settings-fit, settings-are, stands, array-fits, sound, sends-none, idles}
+use Rattle.link.proofs.same_message.Resting.{received-none, received-still}
+use Rattle.link.proofs.same_message.Alone.{Alike, later-alike}
+use Rattle.link.proofs.same_message.Freed.{none-waits, none-behind}
 use Rattle.link.proofs.same_message.Asks.{taken-inside, asked-said, send-starts}
 
 -- ---- a primary that is accepted
@@ -111,10 +119,13 @@ module _ (c : Terms) (y : Exchange) (p n : ℕ) (h : Header) (i : InRange h) (is
   stays-placed : (m : ℕ) → ownPlace (passes c y m) p ≡ placed h
   stays-placed = kept-on side.own c y p (λ (o : Own). o ≡ placed h) (λ o e. ap (ownTick c) e) here
 
+  stays-sent : (m : ℕ) → passes c y m .sending ≡ sending.Primary p n
+  stays-sent m = sending-stays c y m (ap sendingBy is-sent) ∙ is-sent
+
   -- it is what goes out
   goes-out : (m : ℕ) → outgoingOf (passes c y m) ≡ Message h n
   goes-out m =
-      ap (λ (z : Sending'). outgoingAt z (passes c y m)) (sending-stays c y m ∙ is-sent)
+      ap (λ (z : Sending'). outgoingAt z (passes c y m)) (stays-sent m)
       ∙ ap (λ (o : Own). Message (primaryOf o) n) (stays-placed m) ∙ ap (λ (g : Header). Message g n) (header-and-back h i)
 
   shown-open : ownReading y p ≡ own.Place h Open noReply
@@ -127,7 +138,7 @@ module _ (c : Terms) (y : Exchange) (p n : ℕ) (h : Header) (i : InRange h) (is
     unfolding endedOwn putOwn withSending
     sent-place =
         let x : Exchange = passes c y m in
-        ap (λ (z : Sending'). ownPlace (sentBy z x .exchange) p) (sending-stays c y m ∙ is-sent)
+        ap (λ (z : Sending'). ownPlace (sentBy z x .exchange) p) (stays-sent m)
         ∙ getD-set-same (x .own) p (ownSent (ownPlace x p)) freshOwn (omega arith) ∙ ap ownSent (stays-placed m)
 
     -- W is what was asked for
@@ -179,18 +190,10 @@ incoming-read x y p e = ap incomingRead e
 
 -- ---- an idle end
 
--- what ticks alone leave of it
+-- what ticks alone leave of its places
 pub later-is : (t : Track) (w : Reached t) → t .link .line ≡ freshLine → (room o : List ℕ) → length room ≡ 36864 → 257 ≤ length o → (n : ℕ)
-    → laterBy o (t .link) room n .exchange ≡ passes (termsIn t) (t .link .exchange) n
-unfolding passes
-later-is t w idle room o whole long n =
-    let s : Settings = t .link .settings in
-    let x : Exchange = t .link .exchange in
-    let e : 0 + n ≡ n = omega arith in
-    ap (λ (u : Link). laterBy o u room n .exchange) (idles t w idle)
-    ∙ ap (λ (z : Said). z .end .link .exchange)
-    (waits-said s x 1 room o long (sound t w x (stands t w) room whole 1 (omega arith) (omega arith)) (λ i. Idle) (t .link .received) 0 n (idle-counts (s .limits) n))
-    ∙ ap (passes (termsIn t) x) e
+    → Alike (passes (termsIn t) (t .link .exchange) n) (laterBy o (t .link) room n .exchange)
+later-is t w idle room o whole long n = later-alike t w room o whole long (subst NoneOrReport (sym (sends-none t w idle)) none) n
 
 -- ---- both
 
@@ -238,7 +241,7 @@ module _ (a b : Track) (l : Linked a b) (room far o : List ℕ) (m : Lent room f
         device = omega (arith, e .device);
         stream = omega (arith, e .stream, fits .stream);
         function = omega (arith, e .function, typed .function);
-        number = omega (arith, e .number);
+        number = let few = count-is-fewest (length d) in omega (arith, e .number, fits .short);
         system = omega (arith, e .system, typed .source, number-fits);
       }
 
@@ -264,7 +267,17 @@ module _ (a b : Track) (l : Linked a b) (room far o : List ℕ) (m : Lent room f
       ap (λ (u : Link). saidBy (openCall u q d room o)) (idles a (l .one) (l .line))
       ∙ asked-said s x 1 room (a .link .received) o (m .out) (here-sound 0) (primary q d) refl p taken
 
-  module _ (takes : ReadyFor (t .terms) (b .link .exchange) h d) (w : ℕ → Pauses) (time : InTime s t d w) where
+  -- where y awaits a reply, x did: its own place is being sent
+  awaits-before : (k timer : ℕ) → ownPlace y k .stage ≡ Awaiting timer → ownPlace x k .stage ≡ Awaiting timer
+  awaits-before k timer e =
+      by-place k p
+      (λ f.
+      let z : Sending ≡ Awaiting timer = ap (λ (i : Own). i .stage) (sym (opened .place)) ∙ ap (λ (j : ℕ). ownPlace y j .stage) (sym f) ∙ e in
+      absurd (false≢true (ap timedAt z)))
+      (λ ne. ap (λ (i : Own). i .stage) (sym (opened .others k ne)) ∙ e)
+
+  module _ (takes : ReadyFor (t .terms) (b .link .exchange) h d) (w : ℕ → Pauses) (time : InTime s t d w)
+      (none-late : NoneLate (s .terms) x (ticksOutAll d w) AnyPlace) (none-late-there : NoneLate (t .terms) (b .link .exchange) (ticksInAll d w) AnyPlace) where
     -- what came of it by its blocks 1 to k
     came : ℕ → Receiver
     came k = received (t .terms) (ticksIn d w) (receiverOf (b .link .exchange) far) h d k
@@ -282,11 +295,23 @@ module _ (a b : Track) (l : Linked a b) (room far o : List ℕ) (m : Lent room f
         (record { r = z .r ∙ sym (l .roles); device = z .device ∙ sym (l .device) })
         (ap (λ (n : ℕ). n % 2) (z .function) ∙ fits .odd) (fits .short) takes (time .blocks)
 
+    -- no report starts there, by its blocks or by the ticks between them
+    rests-there : came (blockCount (length d)) .exchange .sending ≡ sending.Nothing
+    rests-there = ap (λ (v : Outbox). v .sending) (assembled .unreported none-late-there) ∙ sends-none b (l .other) (l .far-line)
+
+    -- nor here, behind its last ACK
+    none-follows : sentOf (passes (s .terms) y (spent w (blockCount (length d)))) .exchange .sending ≡ sending.Nothing
+    none-follows =
+        none-behind (s .terms) x y (opened .reports) (none-waits a (l .one) (l .last) (sends-none a (l .one) (l .line))) awaits-before (spent w (blockCount (length d)))
+        (subst (λ (i : ℕ). NoneLate (s .terms) x i AnyPlace) (sym (spent-all w (blockCount (length d)))) none-late)
+
     -- it is carried
     arrives : Arrived a b h d w s y sent (a .link .received) t (receiverOf (b .link .exchange) far) (outward o w (endOf (a .link) room) (endOf (b .link) far) q d)
+    unfolding came
     arrives =
         let n : ℕ = blockCount (length d) in
         let r : Receiver = receiverOf (b .link .exchange) far in
+        let quiet = sends-none b (l .other) (l .far-line) in
         subst (Arrived a b h d w s y sent (a .link .received) t r)
         (sym (λ i. carries o w n (puts (asks i) (endOf (idles b (l .other) (l .far-line) i) far))))
         (all-carried o (m .out) h d range (typed .bytes) (fits .short) s y sent (a .link .received)
@@ -298,7 +323,9 @@ module _ (a b : Track) (l : Linked a b) (room far o : List ℕ) (m : Lent room f
         sound b (l .other) (received (t .terms) (ticksIn d w) r h d k .exchange)
         (stands-received (t .terms) (ticksIn d w) r h d (stands b (l .other)) k)
         (received (t .terms) (ticksIn d w) r h d k .room) (received-size (t .terms) (ticksIn d w) r h d k ∙ m .there) 1 (omega arith) (omega arith))
-        (received-rests (t .terms) (ticksIn d w) r h d (not-sending b (l .other) (l .far-line))) time a b
+        (received-still (t .terms) (ticksIn d w) r h d quiet n rests-there)
+        (λ k less. let none = received-none (t .terms) (ticksIn d w) r h d quiet n rests-there in none (suc k) less ∙ sym (none k (omega arith)))
+        none-follows time a b
         (subst (λ (z : Said). Reaches a (z .end)) asks (reaches-asked a (endOf (a .link) room) (reaches-itself a room) o (primary q d)))
         (subst (λ (u : Link). Reaches b (endOf u far)) (idles b (l .other) (l .far-line)) (reaches-itself b far)))
 
@@ -353,15 +380,15 @@ module _ (a b : Track) (l : Linked a b) (room far o : List ℕ) (m : Lent room f
         let r : Receiver = came n in
         let z = assembled in
         let later : Link = laterBy o (b .link) far (ticksInAll d w) in
-        let alone : later .exchange ≡ passes (t .terms) (b .link .exchange) (ticksInAll d w) = later-is b (l .other) (l .far-line) far o (m .there) (m .out) (ticksInAll d w) in
+        let alone = later-is b (l .other) (l .far-line) far o (m .there) (m .out) (ticksInAll d w) in
         subst (Delivered o q d h p (a .link .exchange .saved) later) (sym (arrives .so))
         (record {
           quiet = record {
             none = refl;
             line = refl;
             far-line = refl;
-            sending = ap sendingBy (sending-ends (s .terms) (passes (s .terms) y (spent w n)) .acknowledged);
-            far-sending = ap sendingBy (z .sending) ∙ not-sending b (l .other) (l .far-line);
+            sending = ap sendingBy none-follows;
+            far-sending = ap sendingBy rests-there;
           };
           again = again;
           standing = standing;
@@ -372,8 +399,8 @@ module _ (a b : Track) (l : Linked a b) (room far o : List ℕ) (m : Lent room f
           same = z .same;
           bytes = message-read (r .exchange) (r .room) (z .place) (z .primary) d (wanted h) (z .within) (came-whole n) (fits .short) (z .complete) (z .bytes);
           notes = z .notes;
-          others = λ k ne. incoming-read (r .exchange) (later .exchange) k (z .others k ne ∙ ap (λ (v : Exchange). incomingPlace v k) (sym alone));
-          owns = λ k. own-read (r .exchange) (later .exchange) k (z .owns k ∙ ap (λ (v : Exchange). ownPlace v k) (sym alone));
+          others = λ k ne. incoming-read (r .exchange) (later .exchange) k (z .others k ne ∙ ap (λ (v : List Incoming). incomingAt v k) (sym (alone .incoming)));
+          owns = λ k. own-read (r .exchange) (later .exchange) k (z .owns k ∙ ap (λ (v : List Own). ownAt v k) (sym (alone .own)));
           saved = z .saved;
           far-saved = sent-saves (passes (s .terms) y (spent w n) .sending) (passes (s .terms) y (spent w n)) ∙ saved-stays (s .terms) y (spent w n) ∙ opened .saved;
         })

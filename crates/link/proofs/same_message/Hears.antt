@@ -7,11 +7,10 @@ use native.Mathlib.Omega.{arith}
 use lib.ListN.{length, drop, set, length-append}
 use lib.Seq.{set-append-seam}
 use borrow.Author.Tests.{le-leb, lt-ltb, le-ltb, eq-eqb, ne-eqb}
-use Rattle.wire.specs.Bytes.{Bytes, part, pairOf, halvesOf}
+use Rattle.wire.specs.Bytes.{Bytes, pairOf, halvesOf}
 use Rattle.wire.specs.Sum.{plainSum, checksumOf, sumWith}
 use Rattle.wire.proofs.Sums.{sum-append, sum-most, sum-by-byte}
 use Rattle.settings.specs.Panel.{between}
-use Rattle.header.specs.Header.{firstTen}
 use Rattle.block.specs.Block.{framed}
 use Rattle.line.specs.Codes.{ENQ, EOT, ACK}
 use Rattle.line.specs.Line.{lineAt, goes, stays, rises, heard, byteOf, idleByte, lengthByte, bodyByte, lowByte, settleIdle, settleOf}
@@ -22,19 +21,16 @@ use Rattle.line.specs.declared.phase.Phase.the-variants.{Idle, WaitLength, Body
 use Rattle.line.specs.declared.step.Out.the-variants.{Nothing, Code}
 use Rattle.line.specs.declared.step.Told.the-variants.{Up}
 use Rattle.exchange.specs.Note.{noteNumber}
-use Rattle.exchange.specs.Request.{sendingBy, isSending}
 use Rattle.exchange.specs.Judge.{Judging}
 use Rattle.exchange.specs.Assembly.{passes}
 use Rattle.exchange.specs.declared.Exchange.{Exchange}
-use Rattle.exchange.proofs.Passing.{sending-stays}
 use Rattle.link.specs.Courier.{carried}
 use Rattle.link.specs.Run.{judging, judgedAs}
 use Rattle.link.specs.SameMessage.{End, endOf, Said, noting, behind, hears, hearsLate, hearsAll, total}
 use Rattle.link.specs.declared.Outcome.the-variants.{Done}
 use Rattle.link.specs.declared.Settings.{Settings}
 use Rattle.link.specs.declared.Link.{Link}
-use Rattle.link.proofs.inside.Courier.{judged-still}
-use Rattle.link.proofs.same_message.Calls.{said, course-said, courier-rests, unit, Sound, says, quiet-said, Counts, at, heard-late, idle-counts, length-counts, body-counts}
+use Rattle.link.proofs.same_message.Calls.{said, course-said, courier-rests, unit, Sound, says, quiet-said, Still, Counts, at, heard-late, idle-counts, length-counts, body-counts}
 
 -- ---- bytes, one after the other
 
@@ -95,31 +91,32 @@ in-sum : (p : List ℕ) → plainSum p ≤ 64770 → checksumOf p ≤ 64770
 unfolding checksumOf
 in-sum p small = omega arith
 
-module _ (o : List ℕ) (long : 257 ≤ length o) (s : Settings) (x : Exchange) (k : ℕ) (room : List ℕ) (g : (n : ℕ) → Sound s (passes (s .terms) x n) k room) where
+module _ (o : List ℕ) (long : 257 ≤ length o) (s : Settings) (x : Exchange) (k : ℕ) (room : List ℕ)
+    (g : (n : ℕ) → Sound s (passes (s .terms) x n) k room) (most-ticks : ℕ) (still : Still (s .terms) x most-ticks) where
   abbrev here : Phase → List ℕ → ℕ → End
   here = at s x k room o long g
 
   -- ENQ gives EOT
-  pub enq-heard : (rs : List ℕ) (n : ℕ) → hearsAll o (λ i. n) (endOf (unit s Idle rs x k) room) (ENQ ∷ [])
+  pub enq-heard : (rs : List ℕ) (n : ℕ) → n ≤ most-ticks → hearsAll o (λ i. n) (endOf (unit s Idle rs x k) room) (ENQ ∷ [])
       ≡ said (here (WaitLength 0) rs n) (EOT ∷ [])
   unfolding idleByte passes
-  enq-heard rs n =
+  enq-heard rs n early =
       let e : 0 + n ≡ n = omega arith in
       one-heard o (λ i. n) _ ENQ _
-      (heard-late s x k room o long g (λ i. Idle) rs 0 n ENQ (idle-counts (s .limits) n) ∙ ap (λ (t : ℕ). hears o (here Idle rs t) ENQ) e
+      (heard-late s x k room o long g (λ i. Idle) rs 0 n ENQ (idle-counts (s .limits) n) (λ i l. still i (omega arith)) ∙ ap (λ (t : ℕ). hears o (here Idle rs t) ENQ) e
       ∙ says s (passes (s .terms) x n) k room o long (g n) Idle rs ENQ _ refl refl
       ∙ quiet-said s (passes (s .terms) x n) k room o Idle (WaitLength 0) (Code EOT) rs rs refl)
 
   -- a byte to which nothing is said, and which brings the line to another phase
-  byte-taken : (phase : ℕ → Phase) (q : Phase) (w : ℕ → ℕ) (m b : ℕ) (rs ss bs : List ℕ) → Counts (s .limits) phase (w 0)
+  byte-taken : (phase : ℕ → Phase) (q : Phase) (w : ℕ → ℕ) (m b : ℕ) (rs ss bs : List ℕ) → Counts (s .limits) phase (w 0) → m + w 0 ≤ most-ticks
       → byteOf (s .limits) (lineAt false (phase (w 0))) b rs ≡ heard (goes (lineAt false (phase (w 0))) q Nothing) ss
       → settleOf (lineAt false q) ≡ stays (lineAt false q)
       → hearsAll o w (here (phase 0) rs m) (b ∷ bs) ≡ hearsAll o (λ i. w (suc i)) (here q ss (m + w 0)) bs
-  byte-taken phase q w m b rs ss bs c so z =
+  byte-taken phase q w m b rs ss bs c early so z =
       let p : Phase = phase (w 0) in
       let y : Exchange = passes (s .terms) x (m + w 0) in
       first-heard o w _ b bs _
-      (heard-late s x k room o long g phase rs m (w 0) b c
+      (heard-late s x k room o long g phase rs m (w 0) b c (λ i l. still i (omega arith))
       ∙ says s y k room o long (g (m + w 0)) p rs b (heard (goes (lineAt false p) q Nothing) ss) (c .ranged (w 0) (omega arith)) so
       ∙ quiet-said s y k room o p q Nothing rs ss z)
 
@@ -131,28 +128,31 @@ module _ (o : List ℕ) (long : 257 ≤ length o) (s : Settings) (x : Exchange) 
         body-counts (s .limits) t (coming n got sum high) (simp (le-leb 10 n ten, le-leb n 254 most, le-leb got 255 few, le-leb sum 64770 small)) (g 0 .t1) fits
 
     -- the length byte
-    length-heard : (w : ℕ → ℕ) (m : ℕ) (rs bs : List ℕ) → w 0 ≤ s .limits .t2 .0
+    length-heard : (w : ℕ → ℕ) (m : ℕ) (rs bs : List ℕ) → w 0 ≤ s .limits .t2 .0 → m + w 0 ≤ most-ticks
         → hearsAll o w (here (WaitLength 0) rs m) (n ∷ bs) ≡ hearsAll o (λ i. w (suc i)) (here (Body 0 (coming n 0 0 0)) rs (m + w 0)) bs
     unfolding lengthByte between
-    length-heard w m rs bs fits =
-        byte-taken (λ i. WaitLength i) (Body 0 (coming n 0 0 0)) w m n rs rs bs (length-counts (s .limits) (w 0) (g 0 .t2) fits)
+    length-heard w m rs bs fits early =
+        byte-taken (λ i. WaitLength i) (Body 0 (coming n 0 0 0)) w m n rs rs bs (length-counts (s .limits) (w 0) (g 0 .t2) fits) early
         (simp (le-leb 10 n ten, le-leb n 254 most)) refl
 
     -- one of the n bytes
     byte-heard : (w : ℕ → ℕ) (m got sum b : ℕ) (rs bs : List ℕ) → got + 1 ≤ n → sum ≤ 64770 → w 0 ≤ s .limits .t1 .0
+        → m + w 0 ≤ most-ticks
         → hearsAll o w (here (Body 0 (coming n got sum 0)) rs m) (b ∷ bs)
         ≡ hearsAll o (λ i. w (suc i)) (here (Body 0 (coming n (got + 1) (sumWith sum b) 0)) (set rs got b) (m + w 0)) bs
     unfolding bodyByte
-    byte-heard w m got sum b rs bs less small fits =
+    byte-heard w m got sum b rs bs less small fits early =
         byte-taken (λ i. Body i (coming n got sum 0)) (Body 0 (coming n (got + 1) (sumWith sum b) 0)) w m b rs (set rs got b) bs
-        (body-goes got sum 0 (w 0) (omega arith) small fits) (simp (lt-ltb got n (omega arith))) refl
+        (body-goes got sum 0 (w 0) (omega arith) small fits) early (simp (lt-ltb got n (omega arith))) refl
 
-    -- the two bytes of the sum: equal sums; where no message is being sent, none is withdrawn
-    sum-heard : (w : ℕ → ℕ) (m sum : ℕ) (rs : List ℕ) → isSending x ≡ false → sum ≤ 64770 → w 0 ≤ s .limits .t1 .0 → w 1 ≤ s .limits .t1 .0
+    -- the two bytes of the sum: equal sums; no message starts or ends with the block
+    sum-heard : (w : ℕ → ℕ) (m sum : ℕ) (rs : List ℕ)
+        → judging (unit s Idle rs (passes (s .terms) x (m + w 0 + w 1)) k) n room .answer .exchange .sending ≡ x .sending
+        → m + w 0 + w 1 ≤ most-ticks → sum ≤ 64770 → w 0 ≤ s .limits .t1 .0 → w 1 ≤ s .limits .t1 .0
         → hearsAll o w (here (Body 0 (coming n n sum 0)) rs m) (halvesOf sum)
         ≡ ack-of s rs k (judging (unit s Idle rs (passes (s .terms) x (m + w 0 + w 1)) k) n room)
     unfolding bodyByte lowByte settleIdle
-    sum-heard w m sum rs rests small first second =
+    sum-heard w m sum rs kept early small first second =
         let over : pairOf (sum / 256) (sum % 256) ≡ sum = omega arith in
         let y : Exchange = passes (s .terms) x (m + w 0 + w 1) in
         let u : Link = unit s Idle rs y k in
@@ -160,50 +160,53 @@ module _ (o : List ℕ) (long : 257 ≤ length o) (s : Settings) (x : Exchange) 
         let a : Arrival = coming n (n + 1) sum (sum / 256) in
         let c = body-goes (n + 1) sum (sum / 256) (w 1) (omega arith) small second in
         byte-taken (λ i. Body i (coming n n sum 0)) (Body 0 a) w m (sum / 256) rs rs (sum % 256 ∷ [])
-        (body-goes n sum 0 (w 0) (omega arith) small first) (simp (le-ltb n n (omega arith), eq-eqb n n refl)) refl
+        (body-goes n sum 0 (w 0) (omega arith) small first) (omega arith) (simp (le-ltb n n (omega arith), eq-eqb n n refl)) refl
         ∙ one-heard o (λ i. w (suc i)) _ (sum % 256) _
-        (heard-late s x k room o long g (λ i. Body i a) rs (m + w 0) (w 1) (sum % 256) c
+        (heard-late s x k room o long g (λ i. Body i a) rs (m + w 0) (w 1) (sum % 256) c (λ i l. still i (omega arith))
         ∙ says s y k room o long (g (m + w 0 + w 1)) (Body (w 1) a) rs (sum % 256) (heard (rises (lineAt false (Body (w 1) a)) n) rs)
         (c .ranged (w 1) (omega arith))
         (simp (le-ltb (n + 1) n (omega arith), ne-eqb (n + 1) n (λ e. omega arith), eq-eqb (pairOf (sum / 256) (sum % 256)) sum over))
         ∙ course-said u (Code ACK) (Up n) (judgedAs (j .answer)) Done (j .room) o (carried (lineAt false Idle) k)
         (courier-rests (y .sending) (j .answer .exchange .sending) (Up n) (lineAt false Idle) k (j .room)
-        (judged-still (s .terms) y (firstTen rs) (part 10 n rs) room (ap sendingBy (sending-stays (s .terms) x (m + w 0 + w 1)) ∙ rests)) refl))
+        (kept ∙ sym (still (m + w 0 + w 1) early)) refl))
 
     -- all n bytes, p being those that came
     bytes-heard : (w : ℕ → ℕ) (m : ℕ) (p xs rest zs : List ℕ) → length p + length xs ≡ n → length xs ≤ length rest → plainSum p + plainSum xs ≤ 64770
-        → ((i : ℕ) → i < length xs → w i ≤ s .limits .t1 .0)
+        → ((i : ℕ) → i < length xs → w i ≤ s .limits .t1 .0) → m + total w (length xs) ≤ most-ticks
         → hearsAll o w (here (Body 0 (coming n (length p) (checksumOf p) 0)) (p ++ rest) m) (xs ++ zs)
         ≡ hearsAll o (from w (length xs)) (here (Body 0 (coming n n (checksumOf (p ++ xs)) 0)) ((p ++ xs) ++ drop (length xs) rest) (m + total w (length xs))) zs
     unfolding from total
-    bytes-heard w m p [] rest zs e fits small quick =
+    bytes-heard w m p [] rest zs e fits small quick early =
         let all : length p ≡ n = omega arith in
         let none : p ≡ p ++ [] = sym (append-nil p) in
         let same : m ≡ m + 0 = omega arith in
         λ i. hearsAll o w (here (Body 0 (coming n (all i) (checksumOf (none i)) 0)) (none i ++ rest) (same i)) zs
-    bytes-heard w m p (b ∷ xs) [] zs e fits small quick = absurd (omega arith)
-    bytes-heard w m p (b ∷ xs) (y ∷ ys) zs e fits small quick =
+    bytes-heard w m p (b ∷ xs) [] zs e fits small quick early = absurd (omega arith)
+    bytes-heard w m p (b ∷ xs) (y ∷ ys) zs e fits small quick early =
         let got = length-append p (b ∷ []) in
         let later : ℕ → ℕ = λ i. w (suc i) in
         let past : m + w 0 + total later (length xs) ≡ m + (w 0 + total later (length xs)) = omega arith in
         byte-heard w m (length p) (checksumOf p) b (p ++ (y ∷ ys)) (xs ++ zs) (omega arith) (in-sum p (omega (arith, plus b xs))) (quick 0 (omega arith))
+        (omega arith)
         ∙ (λ i.
         hearsAll o later
         (here (Body 0 (coming n (sym got i) (sym (sum-by-byte .1 p b) i) 0)) ((set-append-seam p y ys b ∙ sym (append-assoc p (b ∷ []) ys)) i) (m + w 0))
         (xs ++ zs))
         ∙ bytes-heard later (m + w 0) (p ++ (b ∷ [])) xs ys zs (omega arith) (omega arith)
-        (omega (arith, sum-append p (b ∷ []), plus b xs, plus b [], none-yet)) (λ i less. quick (suc i) (omega arith))
+        (omega (arith, sum-append p (b ∷ []), plus b xs, plus b [], none-yet)) (λ i less. quick (suc i) (omega arith)) (omega arith)
         ∙ (λ i.
         let back : (p ++ (b ∷ [])) ++ xs ≡ p ++ (b ∷ xs) = append-assoc p (b ∷ []) xs in
         hearsAll o (from later (length xs)) (here (Body 0 (coming n n (checksumOf (back i)) 0)) (back i ++ drop (length xs) ys) (past i)) zs)
 
   -- a whole block: it is acknowledged, and judged as it came, its ticks later
-  pub block-heard : (w : ℕ → ℕ) (m : ℕ) (rs bs : List ℕ) → isSending x ≡ false → length rs ≡ 256 → 10 ≤ length bs → length bs ≤ 254 → Bytes bs
+  pub block-heard : (w : ℕ → ℕ) (m : ℕ) (rs bs : List ℕ)
+      → judging (unit s Idle (overwritten rs bs) (passes (s .terms) x (m + total w (1 + length bs + 2))) k) (length bs) room .answer .exchange .sending ≡ x .sending
+      → m + total w (1 + length bs + 2) ≤ most-ticks → length rs ≡ 256 → 10 ≤ length bs → length bs ≤ 254 → Bytes bs
       → w 0 ≤ s .limits .t2 .0 → ((i : ℕ) → 1 ≤ i → i < 1 + length bs + 2 → w i ≤ s .limits .t1 .0)
       → hearsAll o w (endOf (unit s (WaitLength 0) rs (passes (s .terms) x m) k) room) (framed bs)
       ≡ ack-of s (overwritten rs bs) k (judging (unit s Idle (overwritten rs bs) (passes (s .terms) x (m + total w (1 + length bs + 2))) k) (length bs) room)
   unfolding framed total
-  block-heard w m rs bs rests fits ten most all first quick =
+  block-heard w m rs bs kept early fits ten most all first quick =
       let n : ℕ = length bs in
       let small : plainSum bs ≤ 64770 = omega (arith, sum-most bs all) in
       let later : ℕ → ℕ = λ i. w (suc i) in
@@ -215,10 +218,12 @@ module _ (o : List ℕ) (long : 257 ≤ length o) (s : Settings) (x : Exchange) 
       let count : 1 + length bs + 2 ≡ suc (length bs + 2) = omega arith in
       let past : m + w 0 + total later n + from later n 0 + from later n 1 ≡ m + total w (1 + length bs + 2) =
       omega (arith, two-more later n, ap (total w) count) in
-      length-heard n ten most w m rs (bs ++ halvesOf sum) first
+      length-heard n ten most w m rs (bs ++ halvesOf sum) first (omega (arith, past))
       ∙ (λ i. hearsAll o later (here (Body 0 (coming n 0 (sym (sum-by-byte .0) i) 0)) rs (m + w 0)) (bs ++ halvesOf sum))
       ∙ bytes-heard n ten most later (m + w 0) [] bs rs (halvesOf sum) (omega arith) (omega arith) (omega (arith, none-yet))
-      (λ i less. quick (suc i) (omega arith) (omega arith))
-      ∙ sum-heard n ten most (from later n) (m + w 0 + total later n) sum (overwritten rs bs) rests (in-sum bs small)
+      (λ i less. quick (suc i) (omega arith) (omega arith)) (omega (arith, past))
+      ∙ sum-heard n ten most (from later n) (m + w 0 + total later n) sum (overwritten rs bs)
+      (ap (λ (t : ℕ). judging (unit s Idle (overwritten rs bs) (passes (s .terms) x t) k) n room .answer .exchange .sending) past ∙ kept)
+      (omega (arith, past)) (in-sum bs small)
       (omega (arith, high, high-fits)) (omega (arith, low, low-fits))
       ∙ ap (λ (t : ℕ). ack-of s (overwritten rs bs) k (judging (unit s Idle (overwritten rs bs) (passes (s .terms) x t) k) n room)) past

@@ -39,7 +39,7 @@ module _ (a : Track) where
   pub reaches-asked : (e : End) → Reaches a e → (o : List ℕ) (q : Request) → Reaches a (saidBy (requestCall (e .link) q (e .room) o) .end)
   reaches-asked e r o q = reaches-call e r o (request q) _
 
-  reaches-waits : (e : End) → Reaches a e → (o : List ℕ) (n : ℕ) → Reaches a (waits o e n .end)
+  pub reaches-waits : (e : End) → Reaches a e → (o : List ℕ) (n : ℕ) → Reaches a (waits o e n .end)
   unfolding waits
   reaches-waits e r o zero = r
   reaches-waits e r o (suc n) = reaches-call (waits o e n .end) (reaches-waits e r o n) o tick _

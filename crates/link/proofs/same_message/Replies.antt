@@ -20,7 +20,7 @@ use Rattle.place.specs.declared.Verdict.{Verdict}
 use Rattle.place.specs.declared.Verdict.the-variants.{Answered, Declined}
 use Rattle.exchange.specs.Exchange.{incomingPlace, putIncoming, withSending}
 use Rattle.exchange.specs.Send.{replyTo, outgoingAt, outgoingOf, endedReply, sentBy, sentOf}
-use Rattle.exchange.specs.Request.{askedNumber, reply, answerOf}
+use Rattle.exchange.specs.Request.{askedNumber, sendingBy, reply, answerOf}
 use Rattle.exchange.specs.Reading.{replyStage, incomingReading}
 use Rattle.exchange.specs.Rules.{Fours}
 use Rattle.exchange.specs.Releases as side
@@ -31,6 +31,7 @@ use Rattle.exchange.proofs.Refusing.{request-exactly}
 use Rattle.exchange.proofs.Accepting.{accepted-replies}
 use Rattle.exchange.proofs.Passing.{sending-stays, kept-on}
 use Rattle.exchange.specs.declared.Sending.{Sending}
+use Rattle.exchange.specs.declared.Sending.the-variants.{Reply}
 use Rattle.exchange.specs.declared.Exchange.{Exchange}
 use Rattle.exchange.specs.declared.IncomingReading.the-variants as incoming
 use Rattle.exchange.specs.declared.ReplyStage.{ReplyStage}
@@ -101,10 +102,13 @@ module _ (c : Terms) (x : Exchange) (p f : ℕ) (r room : List ℕ) (k : ℕ) (t
   stays : (m : ℕ) → incomingPlace (passes c y m) p ≡ at (stage.Replying (replied .size))
   stays = kept-on side.incoming c y p (λ (i : Incoming). i ≡ at (stage.Replying (replied .size))) (λ o e. ap (incomingTick c) e) (replied .place)
 
+  sends-on : (m : ℕ) → passes c y m .sending ≡ Reply p f (length r)
+  sends-on m = sending-stays c y m (ap sendingBy (replied .sending)) ∙ replied .sending
+
   -- it is what goes out
   pub goes-out : (m : ℕ) → outgoingOf (passes c y m) ≡ Message (replied .header) (length r)
   goes-out m =
-      ap (λ (z : Sending). outgoingAt z (passes c y m)) (sending-stays c y m ∙ replied .sending)
+      ap (λ (z : Sending). outgoingAt z (passes c y m)) (sends-on m)
       ∙ ap (λ (i : Incoming). Message (replyTo (primaryOf i) f) (length r)) (stays m ∙ sym (replied .place))
       ∙ sym (ap (λ (z : Sending). outgoingAt z y) (replied .sending)) ∙ replied .outgoing
 
@@ -125,7 +129,7 @@ module _ (c : Terms) (x : Exchange) (p f : ℕ) (r room : List ℕ) (k : ℕ) (t
     unfolding incomingReading endedReply withSending putIncoming
     sent-read m four within =
         let z : Exchange = passes c y m in
-        ap (λ (v : Sending). incomingRead (incomingPlace (sentBy v z .exchange) p)) (sending-stays c y m ∙ replied .sending)
+        ap (λ (v : Sending). incomingRead (incomingPlace (sentBy v z .exchange) p)) (sends-on m)
         ∙ ap incomingRead (getD-set-same (z .incoming) p (incomingSent (incomingPlace z p)) freshIncoming (omega arith))
         ∙ ap (λ (i : Incoming). incomingRead (incomingSent i)) (stays m)
         ∙ (λ i. incoming.Place (header-is i) (size-is i) true Sent)

@@ -1,10 +1,10 @@
 -- A reply that is accepted where a primary came is the same message where the primary was sent (`specs/SameMessage.antt`). Assumes
 -- nothing.
-use Prim.Native.Nat.{ℕ, _+_, _%_, _≤_, _<_}
+use Prim.Native.Nat.{ℕ, suc, _+_, _%_, _≤_, _<_}
 use mathlib.Core.Path.{_≡_, refl, sym, ap, subst, _∙_}
 use mathlib.Core.Bool.{Bool, true, false, not, Bool·not-not, false≢true}
 use mathlib.Core.List.{List, [], _∷_}
-use mathlib.Core.Logic.{inl}
+use mathlib.Core.Logic.{_≢_, inl}
 use native.Mathlib.Omega.{arith}
 use lib.Dec.{ltb}
 use lib.ListN.{length}
@@ -31,6 +31,8 @@ use Rattle.place.specs.OwnHistory as own
 use Rattle.place.specs.declared.OwnStage.{OwnStage}
 use Rattle.place.specs.declared.OwnStage.the-variants as stage
 use Rattle.place.specs.declared.IncomingStage.{IncomingStage}
+use Rattle.place.specs.declared.Own.{Own}
+use Rattle.place.specs.declared.Incoming.{Incoming}
 use Rattle.place.specs.declared.Reply.{Reply}
 use Rattle.place.specs.declared.Verdict.{Verdict}
 use Rattle.place.specs.declared.Standing.{Standing}
@@ -38,20 +40,25 @@ use Rattle.place.specs.declared.Standing.the-variants.{Free, Open, Given}
 use Rattle.place.proofs.OwnInvariant.{At, is-received, HasVerdict, no-block}
 use Rattle.place.proofs.OwnAlways.{always}
 use Rattle.place.proofs.Verdicts.{request-shown}
-use Rattle.exchange.specs.Exchange.{ownPlace, incomingPlace}
+use Rattle.table.specs.Own.{ownAt}
+use Rattle.table.specs.Incoming.{incomingAt}
+use Rattle.exchange.specs.Exchange.{ownPlace, incomingPlace, sentFrom}
+use Rattle.exchange.specs.Send.{sentOf}
 use Rattle.exchange.specs.Request.{sendingBy, reply, answerOf}
 use Rattle.exchange.specs.Reading.{ownReading, incomingReading}
 use Rattle.exchange.specs.Rules.{Fours, Duplicate}
 use Rattle.exchange.specs.History.{request}
 use Rattle.exchange.specs.Refusals.{RepliesTo, Replied}
 use Rattle.exchange.specs.Numbers.{inUse}
-use Rattle.exchange.specs.Assembly.{headerIn, Receiver, receiverOf, passes, received, AwaitedFor, acked, Awaits, ReplyAssembled}
-use Rattle.exchange.proofs.BeingSent.{sending-ends}
+use Rattle.exchange.specs.Assembly.{headerIn, Receiver, receiverOf, passes, received, NoneLate, AnyPlace, AwaitedFor, acked, Awaits, ReplyAssembled}
 use Rattle.exchange.proofs.Ranges.{exchange-fits-exactly}
 use Rattle.exchange.proofs.Odds.{Came, CameAt, came}
 use Rattle.exchange.proofs.Passing.{saved-stays}
 use Rattle.exchange.proofs.SavedHeader.{sent-saves}
 use Rattle.exchange.proofs.Answering.{assembly-of-reply}
+use Rattle.exchange.specs.declared.Sending.{Sending}
+use Rattle.exchange.specs.declared.Sending.the-variants as sending
+use Rattle.exchange.specs.declared.Outbox.{Outbox}
 use Rattle.exchange.specs.declared.Exchange.{Exchange}
 use Rattle.exchange.specs.declared.OwnReading.{OwnReading}
 use Rattle.exchange.specs.declared.OwnReading.the-variants as reading
@@ -65,7 +72,7 @@ use Rattle.link.specs.Reading.{ownOf, replyBy, incomingOf, messageBy}
 use Rattle.link.specs.History.{Track, exchangeTrack}
 use Rattle.link.specs.Inside.{Reached}
 use Rattle.link.specs.Verdicts.{standingBy, requestIn}
-use Rattle.link.specs.SameMessage.{endOf, Said, saidBy, Pair, Pauses, carries, puts, homeward, ticksIn, ticksInAll, InTime, Linked, Lent, Earns, Awaited, Shown, TypedReply, laterBy, Returned, ComesBack, SameReply}
+use Rattle.link.specs.SameMessage.{endOf, Said, saidBy, Pair, Pauses, carries, puts, homeward, ticksIn, ticksInAll, ticksOutAll, InTime, Linked, Lent, Earns, Awaited, Shown, TypedReply, laterBy, Returned, ComesBack, SameReply}
 use Rattle.link.specs.declared.Settings.{Settings}
 use Rattle.link.specs.declared.Outcome.the-variants.{Taken}
 use Rattle.link.specs.declared.Link.{Link}
@@ -73,8 +80,10 @@ use Rattle.link.proofs.inside.Places.{exchange-inside, places-inside}
 use Rattle.link.proofs.verdicts.Own.{standing-read, request-read, none-above}
 use Rattle.link.proofs.same_message.Calls.{said, unit, Sound}
 use Rattle.link.proofs.same_message.Reaches.{Reaches, reaches-itself, reaches-asked, meet-again}
-use Rattle.link.proofs.same_message.Carries.{spent, Arrived, all-carried}
-use Rattle.link.proofs.same_message.Stands.{Stands, stands-next, stands-later, stands-out, stands-fours, stands-received, received-rests, received-size, stands, array-fits, sound, not-sending, idles}
+use Rattle.link.proofs.same_message.Carries.{spent, spent-all, Arrived, all-carried}
+use Rattle.link.proofs.same_message.Stands.{Stands, stands-next, stands-later, stands-out, stands-fours, stands-received, received-size, stands, array-fits, sound, sends-none, idles}
+use Rattle.link.proofs.same_message.Resting.{received-none, received-still}
+use Rattle.link.proofs.same_message.Freed.{none-waits, none-behind}
 use Rattle.link.proofs.same_message.Asks.{taken-inside, asked-said, send-starts}
 use Rattle.link.proofs.same_message.Delivers.{own-read, incoming-read, later-is}
 use Rattle.link.proofs.numbers.Distinct.{alone}
@@ -260,7 +269,8 @@ module _ (a b : Track) (l : Linked a b) (room far o : List ℕ) (m : Lent room f
       }
 
   module _ (new : Duplicate (t .terms) z (headerIn e r 1) → ⊥) (w : ℕ → Pauses) (time : InTime s t r w)
-      (early : a .own q .since + ticksIn r w 1 ≤ t .terms .t3 .0) where
+      (early : a .own q .since + ticksIn r w 1 ≤ t .terms .t3 .0)
+      (none-late : NoneLate (s .terms) x (ticksOutAll r w) AnyPlace) (none-late-there : NoneLate (t .terms) z (ticksInAll r w) (λ i. i ≢ q)) where
     -- what comes of it by its blocks 1 to j
     back : ℕ → Receiver
     back j = received (t .terms) (ticksIn r w) (receiverOf z room) e r j
@@ -279,10 +289,26 @@ module _ (a b : Track) (l : Linked a b) (room far o : List ℕ) (m : Lent room f
         routed (record { device = c .device ∙ same .device; system = c .system ∙ same .system })
         (earned h e f (won .0) (c .stream ∙ same .stream) (c .function) (won .1)) (fits .short) (awaits (ticksIn r w 1) new early) (time .blocks)
 
+    -- no report starts there, by its blocks or by the ticks between them
+    rests-there : back (blockCount (length r)) .exchange .sending ≡ sending.Nothing
+    rests-there =
+        let quiet = sends-none a (l .one) (l .line) in
+        ap (λ (v : Outbox). v .sending) (assembled .unreported (ap (λ (i : Sending). sentFrom i q) quiet) none-late-there) ∙ quiet
+
+    -- nor here, behind its last ACK
+    none-follows : sentOf (passes (s .terms) y (spent w (blockCount (length r)))) .exchange .sending ≡ sending.Nothing
+    none-follows =
+        none-behind (s .terms) x y (answer .reports) (none-waits b (l .other) (l .far-last) (sends-none b (l .other) (l .far-line)))
+        (λ i timer u. ap (λ (v : List Own). ownAt v i .stage) (sym (answer .own)) ∙ u) (spent w (blockCount (length r)))
+        (subst (λ (i : ℕ). NoneLate (s .terms) x i AnyPlace) (sym (spent-all w (blockCount (length r)))) none-late)
+
     -- it is carried
     arrives : Arrived b a e r w s y sent (b .link .received) t (receiverOf z room) (homeward o w (endOf (b .link) far) (endOf (a .link) room) p f r)
+    unfolding back
     arrives =
         let c : Receiver = receiverOf z room in
+        let j : ℕ = blockCount (length r) in
+        let quiet = sends-none a (l .one) (l .line) in
         subst (Arrived b a e r w s y sent (b .link .received) t c)
         (sym (λ i. carries o w (blockCount (length r)) (puts (answers-so i) (endOf (idles a (l .one) (l .line) i) room))))
         (all-carried o (m .out) e r range (typed .bytes) (fits .short) s y sent (b .link .received)
@@ -293,7 +319,9 @@ module _ (a b : Track) (l : Linked a b) (room far o : List ℕ) (m : Lent room f
         (λ j less.
         sound a (l .one) (received (t .terms) (ticksIn r w) c e r j .exchange) (stands-received (t .terms) (ticksIn r w) c e r (stands a (l .one)) j)
         (received (t .terms) (ticksIn r w) c e r j .room) (received-size (t .terms) (ticksIn r w) c e r j ∙ m .here) 1 (omega arith) (omega arith))
-        (received-rests (t .terms) (ticksIn r w) c e r (not-sending a (l .one) (l .line))) time b a
+        (received-still (t .terms) (ticksIn r w) c e r quiet j rests-there)
+        (λ i less. let none = received-none (t .terms) (ticksIn r w) c e r quiet j rests-there in none (suc i) less ∙ sym (none i (omega arith)))
+        none-follows time b a
         (subst (λ (i : Said). Reaches b (i .end)) answers-so (reaches-asked b (endOf (b .link) far) (reaches-itself b far) o (reply p f r)))
         (subst (λ (u : Link). Reaches a (endOf u room)) (idles a (l .one) (l .line)) (reaches-itself a room)))
 
@@ -312,7 +340,7 @@ module _ (a b : Track) (l : Linked a b) (room far o : List ℕ) (m : Lent room f
         let j : ℕ = blockCount (length r) in
         let c : Receiver = back j in
         let later : Link = laterBy o (a .link) room (ticksInAll r w) in
-        let ticks-alone : later .exchange ≡ passes (t .terms) z (ticksInAll r w) = later-is a (l .one) (l .line) room o (m .here) (m .out) (ticksInAll r w) in
+        let ticks-alone = later-is a (l .one) (l .line) room o (m .here) (m .out) (ticksInAll r w) in
         let done = sent-read (s .terms) x p f r far k taken g n (shown .stage) (shown .so) (spent w j)
         (stands-fours (s .terms) (passes (s .terms) y (spent w j)) (stands-later (s .terms) y sender-stands (spent w j)) .incoming) p-within in
         subst (Returned o (won .0) p q f r g h e n (messageBy (incomingReading x p) far p) (x .saved) later) (sym (arrives .so))
@@ -321,8 +349,8 @@ module _ (a b : Track) (l : Linked a b) (room far o : List ℕ) (m : Lent room f
             none = refl;
             line = refl;
             far-line = refl;
-            sending = ap sendingBy (sending-ends (s .terms) (passes (s .terms) y (spent w j)) .acknowledged);
-            far-sending = received-rests (t .terms) (ticksIn r w) (receiverOf z room) e r (not-sending a (l .one) (l .line)) j;
+            sending = ap sendingBy none-follows;
+            far-sending = ap sendingBy rests-there;
           };
           again =
               meet-again a b l o _ _ (subst (λ (i : Pair). Reaches a (i .receiver)) (arrives .so) (arrives .receiver-reaches))
@@ -337,8 +365,8 @@ module _ (a b : Track) (l : Linked a b) (room far o : List ℕ) (m : Lent room f
           replied = done;
           still =
               ap (λ (i : IncomingReading). messageBy i sent p) done ∙ message-stays ∙ sym (ap (λ (i : IncomingReading). messageBy i far p) (shown .so));
-          others = λ i ne. own-read (c .exchange) (later .exchange) i (assembled .others i ne ∙ ap (λ (v : Exchange). ownPlace v i) (sym ticks-alone));
-          incomings = λ i. incoming-read (c .exchange) (later .exchange) i (assembled .incomings i ∙ ap (λ (v : Exchange). incomingPlace v i) (sym ticks-alone));
+          others = λ i ne. own-read (c .exchange) (later .exchange) i (assembled .others i ne ∙ ap (λ (v : List Own). ownAt v i) (sym (ticks-alone .own)));
+          incomings = λ i. incoming-read (c .exchange) (later .exchange) i (assembled .incomings i ∙ ap (λ (v : List Incoming). incomingAt v i) (sym (ticks-alone .incoming)));
           saved = assembled .saved;
           far-saved = sent-saves (passes (s .terms) y (spent w j) .sending) (passes (s .terms) y (spent w j)) ∙ saved-stays (s .terms) y (spent w j) ∙ answer .saved;
         })

@@ -23,17 +23,18 @@ use Rattle.place.specs.declared.Fate.{Fate}
 use Rattle.place.specs.declared.Fate.the-variants as fate
 use Rattle.exchange.specs.Exchange.{ownPlace, incomingPlace, savedNow}
 use Rattle.exchange.specs.Range.{exchangeInRange}
-use Rattle.exchange.specs.Request.{sendingBy, isSending}
+use Rattle.exchange.specs.Request.{isSending}
 use Rattle.exchange.specs.Judge.{keepBy, thrown, replyBlock, messageBlock, beginsAt, judgeOf}
 use Rattle.exchange.specs.Rules.{Fours}
 use Rattle.exchange.specs.History.{Call, block, tick, put-out, called, Track, track}
 use Rattle.exchange.specs.Theorems.{Reached}
 use Rattle.exchange.specs.Assembly.{headerIn, dataIn, Receiver, passes, received}
+use Rattle.exchange.proofs.Unreported.{idle as none-sent}
 use Rattle.exchange.proofs.Cases.{by-judge}
 use Rattle.exchange.proofs.AnyRoom.{track-alike}
-use Rattle.exchange.proofs.Passing.{sending-stays}
 use Rattle.exchange.proofs.Runs.{reached-more, four-places, sound-reached}
 use Rattle.exchange.proofs.Inside.{exchange-reached-in-range}
+use Rattle.exchange.specs.declared.Sending.the-variants.{Nothing}
 use Rattle.exchange.specs.declared.Exchange.{Exchange}
 use Rattle.link.specs.Setup.{settingsInRange}
 use Rattle.link.specs.Run.{puttingOut}
@@ -42,7 +43,6 @@ use Rattle.link.specs.History as link
 use Rattle.link.specs.Inside as inside
 use Rattle.link.specs.declared.Settings.{Settings}
 use Rattle.link.proofs.Cases.{by-put-out}
-use Rattle.link.proofs.inside.Courier.{judged-still}
 use Rattle.link.proofs.refusals.Start.{StartedAs, started-as, settings-sound}
 use Rattle.link.proofs.inside.Reached.{settings-stay, line-inside}
 use Rattle.link.proofs.inside.Places.{exchange-inside}
@@ -90,7 +90,7 @@ kept-size fate.TooLong room m have d = refl
 kept-size (fate.Last n) room m have d = keeps-only room m have d .size
 kept-size (fate.More n) room m have d = keeps-only room m have d .size
 
--- judging leaves it as long as it was
+-- judging leaves it as long as it was, whatever is reported
 judged-size : (c : Terms) (x : Exchange) (h d room : List ℕ) → length (judgeOf c x h d room .room) ≡ length room
 unfolding thrown savedNow replyBlock messageBlock beginsAt
 judged-size c x h d room =
@@ -110,16 +110,6 @@ module _ (c : Terms) (pauses : ℕ → ℕ) (r : Receiver) (h : Header) (d : Lis
       let y : Receiver = received c pauses r h d k in
       stands-next c (passes c (y .exchange) (pauses (suc k))) (y .room) (block (headerIn h d (suc k)) (dataIn h d (suc k)))
       (stands-later c (y .exchange) (stands-received w k) (pauses (suc k)))
-
-  -- where no message is being sent, none is withdrawn
-  pub received-rests : isSending (r .exchange) ≡ false → (k : ℕ) → isSending (received c pauses r h d k .exchange) ≡ false
-  unfolding received
-  received-rests e zero = e
-  received-rests e (suc k) =
-      let y : Receiver = received c pauses r h d k in
-      let x : Exchange = passes c (y .exchange) (pauses (suc k)) in
-      let still : isSending x ≡ false = ap sendingBy (sending-stays c (y .exchange) (pauses (suc k))) ∙ received-rests e k in
-      ap sendingBy (judged-still c x (headerIn h d (suc k)) (dataIn h d (suc k)) (y .room) still) ∙ still
 
   pub received-size : (k : ℕ) → length (received c pauses r h d k .room) ≡ length (r .room)
   unfolding received
@@ -169,8 +159,11 @@ module _ (t : link.Track) (w : inside.Reached t) where
 
   -- its line is idle
   module _ (idle : t .link .line ≡ freshLine) where
-    pub not-sending : isSending (t .link .exchange) ≡ false
+    not-sending : isSending (t .link .exchange) ≡ false
     not-sending = agrees t w .same ∙ ap busy idle
+
+    pub sends-none : t .link .exchange .sending ≡ Nothing
+    sends-none = none-sent (t .link .exchange .sending) not-sending
 
     pub idles : t .link ≡ unit (t .link .settings) Idle (t .link .received) (t .link .exchange) 1
     idles =

@@ -1,15 +1,17 @@
 -- Which block is current, whether one follows, and when a message has been sent: by the ACKs that the onlooker at the door has heard
 -- (`specs/Sends.antt`). Assumes nothing.
-use Prim.Native.Nat.{ℕ, _+_, _≤_, _<_}
+use Prim.Native.Nat.{ℕ, suc, _+_, _≤_, _<_}
 use mathlib.Core.Path.{_≡_, refl, sym, ap, _∙_, subst}
 use mathlib.Core.Bool.{Bool, true, false, cond}
 use mathlib.Core.List.{List, [], _∷_}
-use mathlib.Core.Logic.{_↔_}
+use mathlib.Core.Logic.{_↔_, _≢_, inl, inr, ⊎-elim}
+use native.Mathlib.Omega.{arith}
 use lib.Dec.{ltb}
 use lib.ListN.{length}
-use borrow.Author.Tests.{lt-ltb, ltb-true}
+use borrow.Author.Tests.{lt-ltb, le-ltb, ltb-true}
 use Rattle.wire.proofs.Choice.{either}
 use Rattle.cut.specs.Blocks.{blockCount}
+use Rattle.cut.proofs.Counts.{count-is-fewest}
 use Rattle.line.specs.Codes.{ACK}
 use Rattle.line.specs.Line.{Heard}
 use Rattle.line.specs.History as line
@@ -20,40 +22,39 @@ use Rattle.line.specs.declared.step.Told.{Told}
 use Rattle.line.specs.declared.step.Told.the-variants as told
 use Rattle.exchange.specs.Send.{outgoingAt}
 use Rattle.exchange.specs.Request.{sendingBy, Request, primary, reply, free-own, free-incoming, lends}
-use Rattle.exchange.specs.Theorems.{lengthSent}
+use Rattle.exchange.specs.Reports.{sameMessage}
+use Rattle.exchange.specs.BeingSent.{sendingBehind, sendingAfter, NoneOrReport, none as no-report, report}
+use Rattle.exchange.specs.Theorems.{lengthSent, fromCaller}
 use Rattle.exchange.specs.Posting.{Post}
 use Rattle.exchange.specs.declared.Sending.{Sending}
 use Rattle.exchange.specs.declared.Sending.the-variants as sending
 use Rattle.exchange.specs.declared.Exchange.{Exchange}
 use Rattle.exchange.proofs.BeingSent.{request-sends}
-use Rattle.exchange.proofs.Posting.{Carries, carries-start, carries-all, text-all}
+use Rattle.exchange.specs.declared.Asked.{Asked}
+use Rattle.exchange.proofs.Same.{same-message, message-same, message-other}
+use Rattle.exchange.proofs.Posting.{Carries, TextIs, carries-start, carries-all, text-all}
 use Rattle.exchange.proofs.Runs.{three-equal}
 use Rattle.link.specs.Courier.{courierBy}
-use Rattle.link.specs.Run.{Left, nextIn, hasNext, stepped, byteStepped, byteStep}
+use Rattle.link.specs.Run.{Left, nextIn, hasNext, passing, hears, hearing, stepped, byteStepped, byteStep}
 use Rattle.link.specs.Call.{gated}
-use Rattle.link.specs.Reading.{sendingOf}
+use Rattle.link.specs.Reading.{sendingOf, messageOf}
 use Rattle.link.specs.History.{Call, byte, tick, drained, request, called, Made, stepIn, Track, exchangeTrack, termsIn, onExchangeIn, next, track}
 use Rattle.link.specs.Inside.{Reached}
 use Rattle.link.specs.Device.{comes}
-use Rattle.link.specs.Sends.{Sender, nothingSent, acks, startsBy, blockAfter, senderSees, senderWatch, senderSeen, BlockMoves, NextExactly}
+use Rattle.link.specs.Sends.{Sender, nothingSent, acks, startsBy, blockAfter, blockStarted, senderSees, senderWatch, senderSeen, BlockMoves, NextExactly}
 use Rattle.link.specs.declared.Link.{Link}
-use Rattle.link.proofs.Cases.{by-gate, by-byte, by-request}
+use Rattle.link.proofs.Cases.{by-gate, by-byte, by-request, answering}
 use Rattle.link.proofs.Steps.{at-byte, at-tick, at-drained}
 use Rattle.link.proofs.inside.Reached.{reached-next, start, reached-start}
-use Rattle.link.proofs.inside.Places.{lent, goes, same-terms, sound-inside}
-use Rattle.link.proofs.inside.Courier.{clash, goesOnBy, sendingOn, heardAs, told-sends, out-sends}
-use Rattle.link.proofs.inside.Agrees.{message-of, agrees}
+use Rattle.link.proofs.inside.Places.{lent, goes, same-terms, sound-inside, numbered-inside}
+use Rattle.link.proofs.inside.Tens.{tens-inside}
+use Rattle.link.proofs.inside.Courier.{clash, begun-at, goesOnBy, Goes, heardAs, told-sends, out-sends}
+use Rattle.link.proofs.inside.Agrees.{outgoing-of, agrees}
+use Rattle.link.proofs.door.OneCall.{isSent}
 use Rattle.link.proofs.device.Told.{ack-came, ack-tells}
-use Rattle.link.proofs.sends.Posts.{seen, message-goes}
+use Rattle.link.proofs.sends.Posts.{over-sending, seen, message-goes}
 
 -- ---- what was told, and what the onlooker at the door heard
-
-abbrev isSent : Told → Bool
-isSent told.Nothing = false
-isSent told.PutOut = false
-isSent told.Sent = true
-isSent told.Failed = false
-isSent (told.Up n) = false
 
 is-sent : (t : Told) → isSent t ≡ true → t ≡ told.Sent
 is-sent told.Nothing e = clash e
@@ -79,26 +80,56 @@ acks-told t w k =
 
 -- ---- the block behind one call
 
--- where a message is being sent before and after, it is the same one
-module _ (l : Line) (k : ℕ) where
-  same-block : (t : Told) (z y : Sending) → y ≡ z → sendingBy y ≡ true
-      → (sendingBy z ≡ true) × (courierBy (sendingBy z) (sendingBy y) t l k .block ≡ courierBy true true t l k .block)
-  same-block t z y e s =
-      let b : sendingBy z ≡ true = ap sendingBy (sym e) ∙ s in
-      (b, λ i. courierBy (b i) (s i) t l k .block)
+-- a report that starts is due from its first block; what is being sent on is due as it was
+module _ (y : Sending) (k : ℕ) where
+  same-started : blockStarted true y k ≡ k
+  same-started = by y
+    where
+      by : (v : Sending) → blockStarted true v k ≡ k
+      by sending.Nothing = refl
+      by (sending.Primary p n) = refl
+      by (sending.Reply p f n) = refl
+      by (sending.Report f n) = refl
 
-  -- it goes on at the same block, or behind an ACK at the next
-  on-block : (t : Told) → courierBy true true t l k .block ≡ cond (isSent t) (k + 1) k
-  on-block told.Nothing = refl
-  on-block told.PutOut = refl
-  on-block told.Sent = refl
-  on-block told.Failed = refl
-  on-block (told.Up n) = refl
+  same-due : (z : Sending) → y ≡ z → blockStarted (sameMessage z y) y k ≡ k
+  same-due z e = ap (λ same. blockStarted same y k) (message-same z y (sym e)) ∙ same-started
 
-  told-block : (t : Told) (on : Bool) (z y : Sending) → y ≡ sendingOn on z → sendingBy y ≡ true
-      → (sendingBy z ≡ true) × (courierBy (sendingBy z) (sendingBy y) t l k .block ≡ cond (isSent t) (k + 1) k)
-  told-block t true z y e s = let b = same-block t z y e s in (b .0, b .1 ∙ on-block t)
-  told-block t false z y e s = clash (ap sendingBy (sym e) ∙ s)
+  report-due : NoneOrReport y → sendingBy y ≡ true → blockStarted false y k ≡ 1
+  report-due r = by y r
+    where
+      by : (v : Sending) → NoneOrReport v → sendingBy v ≡ true → blockStarted false v k ≡ 1
+      by _ no-report s = clash s
+      by _ (report f n) s = refl
+
+-- another message than before is a report
+other-report : (on : Bool) (z y : Sending) → Goes on z y → y ≢ z → NoneOrReport y
+other-report true z y (inl e) other = absurd (other e)
+other-report true z y (inr w) other = w .now
+other-report false z y g other = g .1
+
+module _ (l : Line) where
+  -- a message goes on at the same block, or behind an ACK at the next
+  on-block : (t : Told) (k : ℕ) → courierBy true true true t l k .block ≡ cond (isSent t) (k + 1) k
+  on-block told.Nothing k = refl
+  on-block told.PutOut k = refl
+  on-block told.Sent k = refl
+  on-block told.Failed k = refl
+  on-block (told.Up n) k = refl
+
+  told-block : (t : Told) (on : Bool) (z y : Sending) → Goes on z y → sendingBy y ≡ true → (n k : ℕ) → (sendingBy z ≡ true → n ≡ k)
+      → courierBy (sameMessage z y) (sendingBy z) (sendingBy y) t l n .block ≡ blockStarted (sameMessage z y) y (cond (isSent t) (k + 1) k)
+  told-block t on z y g s n k due = by (sameMessage z y) refl
+    where
+      next : ℕ
+      next = cond (isSent t) (k + 1) k
+
+      by : (same : Bool) → sameMessage z y ≡ same → courierBy same (sendingBy z) (sendingBy y) t l n .block ≡ blockStarted same y next
+      by true e =
+          let b : sendingBy z ≡ true = ap sendingBy (same-message z y e) ∙ s in
+          (λ i. courierBy true (b i) (s i) t l (due b i) .block) ∙ on-block t k ∙ sym (same-started y next)
+      by false e =
+          ap (λ now. courierBy false (sendingBy z) now t l n .block) s ∙ begun-at l n (sendingBy z) t
+          ∙ sym (report-due y next (other-report on z y g (λ f. message-other z y e (sym f))) s)
 
 module _ (t : Track) (w : Reached t) (k : ℕ) (due : sendingOf (t .link) ≡ true → t .link .block ≡ k) where
   abbrev u : Link
@@ -106,16 +137,29 @@ module _ (t : Track) (w : Reached t) (k : ℕ) (due : sendingOf (t .link) ≡ tr
 
   -- block k was due before, and one is due then
   abbrev Moves : Call → Left → Type 0
-  Moves c l = sendingOf (l .answer .link) ≡ true → l .answer .link .block ≡ blockAfter (t .seen .ours) c (l .answer .outcome) k
+  Moves c l =
+      sendingOf (l .answer .link) ≡ true
+      → l .answer .link .block
+      ≡ blockStarted (sameMessage (messageOf u) (messageOf (l .answer .link))) (messageOf (l .answer .link)) (blockAfter (t .seen .ours) c (l .answer .outcome) k)
+
+  -- where the same message is being sent, and its block is due as before
+  same-moves : (y : Sending) (n : ℕ) → y ≡ messageOf u → sendingBy y ≡ true → n ≡ k → u .block ≡ blockStarted (sameMessage (messageOf u) y) y n
+  same-moves y n e s is = due (ap sendingBy (sym e) ∙ s) ∙ sym is ∙ sym (same-due y n (messageOf u) e)
+
+  refused-moves : sendingOf u ≡ true → u .block ≡ blockStarted (sameMessage (messageOf u) (messageOf u)) (messageOf u) k
+  refused-moves s = same-moves (messageOf u) k refl s refl
 
   stepped-moves : (c : Call) (ticks : Bool) (room o : List ℕ) → Moves c (stepped ticks u (stepIn u c) room o)
   stepped-moves c ticks room o s =
       let h = stepIn u c in
-      let b = told-block (h .step .line) (u .block) (h .step .told) (goesOnBy (h .step .told) u (heardAs u h room (h .step .told) (h .step .remark))) (u .exchange .sending) _ (told-sends u h room ticks (h .step .told) (h .step .remark)) s in
-      b .1 ∙ (λ i. cond (sym (acks-told t w c) i) (due (b .0) i + 1) (due (b .0) i))
+      let x = heardAs u h room (h .step .told) (h .step .remark) in
+      let y = passing ticks (u .settings .terms) (hearing (h .step .told) (h .step .remark) (hears u h) room .midway) .exchange .sending in
+      told-block (h .step .line) (h .step .told) (goesOnBy (h .step .told) u x) (messageOf u) y
+      (told-sends u h room (sound-inside t w) (numbered-inside t w) ticks (h .step .told) (h .step .remark) (over-sending t w c)) s (u .block) k due
+      ∙ ap (λ z. blockStarted (sameMessage (messageOf u) y) y (cond z (k + 1) k)) (sym (acks-told t w c))
 
   gated-moves : (c : Call) (room o : List ℕ) (l : Left) → Moves c l → Moves c (gated u room o l)
-  gated-moves c room o l m = by-gate (Moves c) u room o l (λ r e s. due s) (λ e. m)
+  gated-moves c room o l m = by-gate (Moves c) u room o l (λ r e. refused-moves) (λ e. m)
 
   -- where the whole block leaves, the message goes on
   byte-moves : (b : ℕ) (fits : b < 256) (room o : List ℕ) → Moves (byte b fits) (byteStepped u (byteStep u b) room o)
@@ -126,15 +170,15 @@ module _ (t : Track) (w : Reached t) (k : ℕ) (due : sendingOf (t .link) ≡ tr
       (by-byte (λ p. Moves (byte b fits)) u h room o (λ e. on) (λ x e. on)
       (λ e s.
       let quiet = block-alone (u .settings .limits) (u .line) (u .received) .block (line.byte b fits) e .told in
-      due (ap sendingBy (sym (out-sends u h room (h .step .told) (h .step .remark) quiet)) ∙ s)
-      ∙ sym (ap (λ z. cond z (k + 1) k) (acks-told t w (byte b fits) ∙ ap isSent quiet))))
+      same-moves _ (cond (acks (t .seen .ours) (byte b fits)) (k + 1) k) (out-sends u h room (h .step .told) (h .step .remark) quiet) s
+      (ap (λ z. cond z (k + 1) k) (acks-told t w (byte b fits) ∙ ap isSent quiet))))
 
   -- a message begins with its block 1
-  begins : (r : Request) → lends r ≡ true → startsBy r k ≡ 1
-  begins (primary q d) e = refl
-  begins (reply p f d) e = refl
-  begins (free-own p) e = clash e
-  begins (free-incoming p) e = clash e
+  begins : (r : Request) → lends r ≡ true → (p : ℕ) (z : Sending) (same : Bool) → blockStarted same (sendingBehind r p z) (startsBy r k) ≡ 1
+  begins (primary q d) e p z same = refl
+  begins (reply i f d) e p z same = refl
+  begins (free-own i) e p z same = clash e
+  begins (free-incoming i) e p z same = clash e
 
   spares : (r : Request) → lends r ≡ false → startsBy r k ≡ k
   spares (primary q d) e = clash (sym e)
@@ -150,17 +194,20 @@ module _ (t : Track) (w : Reached t) (k : ℕ) (due : sendingOf (t .link) ≡ tr
       gated-moves drained room o _ (at-drained (λ (s : Heard). Moves drained (stepped false u s room o)) u (stepped-moves drained false room o))
   call-moves (request r) room o =
       let q = request-sends (u .settings .terms) (u .exchange) r room in
-      by-request u r room o (Moves (request r)) (λ n e s. due s)
-      (λ p e l s. (λ i. courierBy (q .starts p e l .before i) (q .starts p e l .after i) told.Nothing (u .line) (u .block) .block) ∙ sym (begins r l))
-      (λ p e l s. due (ap sendingBy (sym (q .spares l)) ∙ s) ∙ sym (spares r l))
-      (λ n s. due s)
+      let y = answering u r room .answer .exchange .sending in
+      by-request u r room o (Moves (request r)) (λ n e. refused-moves)
+      (λ p e l s.
+      let became : y ≡ sendingBehind r p (messageOf u) = q .becomes ∙ ap (λ (a : Asked). sendingAfter r a (messageOf u)) e in
+      (λ i. courierBy (sameMessage (messageOf u) y) (q .starts p e l .before i) (q .starts p e l .after i) told.Nothing (u .line) (u .block) .block)
+      ∙ sym (ap (λ (v : Sending). blockStarted (sameMessage (messageOf u) y) v (startsBy r k)) became ∙ begins r l p (messageOf u) (sameMessage (messageOf u) y)))
+      (λ p e l s. same-moves y (startsBy r k) (q .spares l) s (spares r l)) (λ n. refused-moves)
 
 -- ---- any calls
 
 -- what is known between calls; F is that the number which the start is told of has no more than its bits
 pub record Held (F : Type 0) (t : Track) (s : Sender) : Type 0 where
   pub carries : Carries F (termsIn t) (t .link .exchange) (s .message)
-  pub text : t .joined .outgoing ≡ s .message .text
+  pub text : TextIs (t .link .exchange) (t .joined) (s .message)
   pub due : sendingOf (t .link) ≡ true → t .link .block ≡ s .block
 
 module _ (F : Type 0) where
@@ -168,12 +215,13 @@ module _ (F : Type 0) where
   held-next t w s g m =
       let c = termsIn t in
       let x = exchangeTrack t (lent t m) in
-      let goes-so = message-goes t (s .message) (m .call) (m .room) (m .out) in
+      let goes-so = message-goes t w (s .message) (m .call) (m .room) (m .out) in
+      let g' = sound-inside t w in
       record {
         carries =
             three-equal (Carries F) (sym (same-terms t m)) (goes t m) goes-so
-            (carries-all F c x (s .message) (onExchangeIn t m) (sound-inside t w) (g .carries));
-        text = text-all c x (s .message) (onExchangeIn t m) (g .text) ∙ ap (λ (p : Post). p .text) goes-so;
+            (carries-all F c x (s .message) (onExchangeIn t m) g' (g .carries));
+        text = three-equal TextIs {b = next t m .joined} (goes t m) refl goes-so (text-all c x (s .message) (onExchangeIn t m) g' (g .text));
         due = call-moves t w (s .block) (g .due) (m .call) (lent t m) (m .out);
       }
 
@@ -186,38 +234,54 @@ pub held : (t : Track) (w : Reached t) → Held (w .setup .last ≤ 65535) t (se
 held t w =
     subst (λ (v : Track). Held (w .setup .last ≤ 65535) v (senderSeen t w)) (w .so)
     (held-all (w .setup .last ≤ 65535) (start t w) (reached-start t w) nothingSent
-    (record { carries = carries-start (w .settings .terms) (w .setup .last); text = refl; due = λ e. clash e }) (w .calls))
+    (record { carries = carries-start (w .settings .terms) (w .setup .last); text = λ e. clash e; due = λ e. clash e }) (w .calls))
 
 -- ---- which block
 
+-- what a report shows has ten bytes, so it has twelve of data
+report-long : (t : Track) (w : Reached t) (f n : ℕ) → messageOf (t .link) ≡ sending.Report f n → 12 ≡ length (senderSeen t w .message .text)
+report-long t w f n e =
+    ap (λ (m : ℕ). suc (suc m)) (sym (tens-inside t w .reports .shown)) ∙ sym (ap (λ (p : Post). length (p .text)) (held t w .carries .holds .report f n e))
+
 -- the blocks of the message being sent are those of the message that the onlooker keeps
-pub as-long : (t : Track) (w : Reached t) → sendingOf (t .link) ≡ true → lengthSent (t .link .exchange .sending) ≡ length (senderSeen t w .message .text)
-as-long t w s = held t w .carries .size s
+pub as-long : (t : Track) (w : Reached t) → sendingOf (t .link) ≡ true → lengthSent (messageOf (t .link)) ≡ length (senderSeen t w .message .text)
+as-long t w = by (messageOf (t .link)) refl
+  where
+    by : (z : Sending) → messageOf (t .link) ≡ z → sendingBy z ≡ true → lengthSent z ≡ length (senderSeen t w .message .text)
+    by sending.Nothing e s = clash s
+    by (sending.Primary p n) e s = ap lengthSent (sym e) ∙ held t w .carries .holds .size (ap fromCaller e)
+    by (sending.Reply p f n) e s = ap lengthSent (sym e) ∙ held t w .carries .holds .size (ap fromCaller e)
+    by (sending.Report f n) e s = report-long t w f n e
 
 pub block-moves : BlockMoves
 block-moves t w =
     let a = agrees t w in
     let s = senderSeen t w in
+    let x = t .link .exchange in
     record {
       due = held t w .due;
       first = λ e. subst (λ k. 1 ≤ k) (held t w .due e) (a .first);
       within = λ e.
-          let o = message-of (t .link .exchange .sending) (t .link .exchange) e in
+          let some = count-is-fewest (lengthSent (x .sending)) .some in
           subst (λ k. k ≤ blockCount (length (s .message .text))) (held t w .due e)
-          (subst (λ n. t .link .block ≤ blockCount n) (as-long t w e) (a .within (o .0) _ (o .1) .0));
+          (subst (λ n. t .link .block ≤ blockCount n) (as-long t w e)
+          (⊎-elim (λ o. a .within (o .0) _ (o .1) .0) (λ o. let one = a .report (o .0) (o .1) (o .2) in omega arith) (outgoing-of (x .sending) x e)));
       idle = a .idle;
     }
 
-next-by : (z : Sending) (x : Exchange) (k : ℕ) → nextIn (outgoingAt z x) k ≡ cond (sendingBy z) (ltb k (blockCount (lengthSent z))) false
-next-by sending.Nothing x k = refl
-next-by (sending.Primary p n) x k = refl
-next-by (sending.Reply p f n) x k = refl
+-- a report is one block
+next-by : (z : Sending) (x : Exchange) (k : ℕ) → 1 ≤ k → nextIn (outgoingAt z x) k ≡ cond (sendingBy z) (ltb k (blockCount (lengthSent z))) false
+unfolding blockCount
+next-by sending.Nothing x k one = refl
+next-by (sending.Primary p n) x k one = refl
+next-by (sending.Reply p f n) x k one = refl
+next-by (sending.Report f n) x k one = sym (le-ltb k 1 one)
 
 pub next-is : (t : Track) (w : Reached t) → hasNext (t .link) ≡ cond (sendingOf (t .link)) (ltb (senderSeen t w .block) (blockCount (length (senderSeen t w .message .text)))) false
 next-is t w =
     let z = t .link .exchange .sending in
     let s = senderSeen t w in
-    next-by z (t .link .exchange) (t .link .block)
+    next-by z (t .link .exchange) (t .link .block) (agrees t w .first)
     ∙ either (sendingBy z)
     (λ b. cond b (ltb (t .link .block) (blockCount (lengthSent z))) false ≡ cond b (ltb (s .block) (blockCount (length (s .message .text)))) false)
     (λ e i. ltb (held t w .due e i) (blockCount (as-long t w e i))) (λ e. refl)

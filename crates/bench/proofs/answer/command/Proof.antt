@@ -5,6 +5,7 @@ use mathlib.Core.List.{List}
 use native.Mathlib.Omega.{arith}
 use Rattle.link.specs.Call.{openCall, replyCall}
 use Rattle.link.specs.Run.{left}
+use Rattle.script.specs.declared.Printed.the-variants as printed
 use Rattle.talk.specs.Run.{running, nothingRan, bytesRun}
 use Rattle.talk.specs.Answer.{done, shownAs, benchOf}
 use Rattle.bench.proofs.Joining.{few, by-call, by-run}
@@ -57,7 +58,7 @@ command-spec =
     (λ c κs. search needs) (λ c. search needs) (λ c κs. search needs) (λ c κs. search needs) (λ c. search needs)
     (λ c κs. search needs)
     (λ c κs. (omega arith, few ((start-from-drained (c .before .before .before .before)) .args .link) ((start-from-drained (c .before .before .before .before)) .args .room .now) ((start-from-drained (c .before .before .before .before)) .args .out .now) call.drained _ (c .before .before .before .before .drained .ensures)))
-    (λ c κs. search needs) (λ c. search needs) (λ c κs. search needs)
+    (λ c κs. search needs) (λ c. search needs) (λ c κs. search needs) (λ c. search needs) (λ c κs. search needs)
     (λ c. simp (c .before .enum-told .given .1) (ap (λ s. done s (c .before .before .before .before .before .before .args .room .now) (c .before .before .before .before .before .before .args .out .now)) (c .unreadable .ensures)))
     (λ c. simp (c .before .before .command .given .1) (ap (λ s. done s (c .before .before .before .before .before .before .before .args .room .now) (c .before .before .before .before .before .before .before .args .out .now)) (c .start .ensures)))
     (λ c. search needs) (λ c. search needs)
@@ -72,4 +73,5 @@ command-spec =
     (λ c. simp (c .before .before .before .before .before .before .before .before .before .command7 .given .1) (by-run _ _ _ _ _ (c .ran6 .ensures) (c .before .before .before .before .before .ticks .ensures)))
     (λ c. search needs) (λ c. search needs)
     (λ c. simp (c .before .before .before .before .before .before .before .before .before .enum-told2 .given .1) (by-call ((start-from-drained (c .before .before .before .before .before .before)) .args .out .now) _ _ _ _ _ _ (c .ran7 .ensures) (c .before .joined5 .ensures) (c .before .before .before .before .before .before .drained .ensures)))
-    (λ c. simp (c .before .before .command8 .given .1) (ap (λ p. done (shownAs (benchOf true (c .before .before .before .before .before .before .before .args .link)) p 0) (c .before .before .before .before .before .before .before .args .room .now) (c .before .before .before .before .before .before .before .args .out .now)) (c .verdict .ensures))))
+    (λ c. simp (c .before .before .command8 .given .1) (ap (λ p. done (shownAs (benchOf true (c .before .before .before .before .before .before .before .args .link)) p 0) (c .before .before .before .before .before .before .before .args .room .now) (c .before .before .before .before .before .before .before .args .out .now)) (c .verdict .ensures)))
+    (λ c. simp (c .before .enum-told3 .given .1) (ap (λ n. done (shownAs (benchOf true (c .before .before .before .before .before .before .args .link)) (printed.Dropped n) 0) (c .before .before .before .before .before .before .args .room .now) (c .before .before .before .before .before .before .args .out .now)) (c .dropped .ensures))))

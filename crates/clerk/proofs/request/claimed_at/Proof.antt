@@ -15,4 +15,4 @@ claimed-at-spec =
     (λ c κs. search needs)
     (λ c κs. search needs)
     (λ c κs. search needs)
-    (λ c. simp (c .before .before .own-put .ensures, c .before .before .before .claimed .ensures, c .before .before .before .before .own-place .ensures, c .before .before .before .before .before .bytes .ensures, c .before .before .before .before .before .before .primary-header .ensures, c .before .before .before .before .before .before .before .next-number .ensures)))
+    (λ c. simp (c .before .before .before .own-put .ensures, c .before .before .before .before .claimed .ensures, c .before .before .before .before .before .own-place .ensures, c .before .before .before .before .before .before .bytes .ensures, c .before .before .before .before .before .before .before .primary-header .ensures, c .before .before .before .before .before .before .before .before .next-number .ensures)))

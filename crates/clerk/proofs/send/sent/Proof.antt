@@ -7,16 +7,6 @@ pub sent-spec : {M : Type 1} → statement M
 sent-spec =
     tie.close
     (tie.spec
-    (λ c. search needs)
-    (λ c κs. search needs)
-    (λ c. search needs)
     (λ c κs. search needs)
     (λ c κs. search needs)
-    (λ c κs. search needs)
-    (λ c. search needs)
-    (λ c κs. search needs)
-    (λ c κs. search needs)
-    (λ c κs. search needs)
-    (λ c. simp (c .before .enum-told .given .1, c .no-flags .ensures))
-    (λ c. simp (c .before .before .before .before .sending .given .1) (rw (c .before .sent .ensures, c .before .before .own-place .ensures) at (c .ended-own .ensures)))
-    (λ c. simp (c .before .before .before .before .sending2 .given .1) (rw (c .before .sent2 .ensures, c .before .before .incoming-place .ensures) at (c .ended-reply .ensures))))
+    (λ c. rw (c .before .sent-by .ensures) at (c .freeing .ensures)))

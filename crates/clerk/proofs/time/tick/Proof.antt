@@ -1,11 +1,11 @@
 -- `time::tick` meets its contract. Assumes nothing.
-use Rattle.exchange.specs.Tick.{tickOf}
+use Rattle.exchange.specs.Tick.{passedOf}
 use borrow.Author.Needs.{needs}
 use Rattle.clerk.proofs.time.tick.Statement.{statement}
 use Rattle.clerk.proofs.time.tick.Tie as tie
 
 pub tick-spec : {M : Type 1} → statement M
-unfolding tickOf
+unfolding passedOf
 tick-spec =
     tie.close
     (tie.spec
@@ -14,4 +14,6 @@ tick-spec =
     (λ c κs. search needs)
     (λ c κs. search needs)
     (λ c κs. search needs)
-    (λ c. simp (c .before .got-marks .ensures, c .before .before .latest-over .ensures, c .before .before .before .before .tick-incoming .ensures, c .before .before .before .before .before .tick-own .ensures, c .gone-marks .ensures)))
+    (λ c κs. search needs)
+    (λ c κs. c .before .before .got-marks .ensures)
+    (λ c. simp (c .before .late .ensures, c .before .before .outbox .ensures, c .before .before .before .gone-marks .ensures, c .before .before .before .before .got-marks .ensures, c .before .before .before .before .before .latest-over .ensures, c .before .before .before .before .before .before .before .tick-incoming .ensures, c .before .before .before .before .before .before .before .before .tick-own .ensures)))

@@ -9,4 +9,5 @@ fresh-spec =
     (tie.spec
     (λ c κs. search needs)
     (λ c κs. search needs)
-    (λ c. simp (c .before .fresh .ensures, c .fresh2 .ensures)))
+    (λ c κs. search needs)
+    (λ c. simp (c .before .before .fresh .ensures, c .before .fresh2 .ensures, c .none .ensures)))

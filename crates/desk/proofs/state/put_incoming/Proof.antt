@@ -10,4 +10,4 @@ put-incoming-spec =
     tie.close
     (tie.spec
     (λ c κs. search needs)
-    (λ c. simp (c .before .before .incoming-put .ensures)))
+    (λ c. simp (c .before .before .before .incoming-put .ensures)))

@@ -12,4 +12,4 @@ put-own-spec =
     (λ c κs. search needs)
     (λ c κs. search needs)
     (λ c κs. search needs)
-    (λ c. simp (c .before .own-at .ensures, c .before .before .before .before .own-put .ensures, c .latest-after .ensures)))
+    (λ c. simp (c .before .own-at .ensures, c .before .before .before .before .before .own-put .ensures, c .latest-after .ensures)))

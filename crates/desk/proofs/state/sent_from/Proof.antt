@@ -11,5 +11,7 @@ sent-from-spec =
     (λ c. search needs)
     (λ c. search needs)
     (λ c. search needs)
+    (λ c. search needs)
     (λ c. simp (c .before .sending .given .1))
+    (λ c. search needs)
     (λ c. search needs))

@@ -1,23 +1,22 @@
 -- `judging::judge` meets its contract. Assumes nothing.
 use mathlib.Core.Path.{sym, _∙_}
-use Rattle.exchange.specs.Judge.{judgeOf, thrown}
+use Rattle.judging.proofs.Silent.{reports-on, silently}
 use borrow.Author.Needs.{needs}
 use Rattle.judging.proofs.judging.judge.Statement.{statement}
 use Rattle.judging.proofs.judging.judge.Tie as tie
 
 pub judge-spec : {M : Type 1} → statement M
-unfolding judgeOf thrown
 judge-spec =
     tie.close
     (tie.spec
     (λ c κs. search needs)
     (λ c κs. search needs)
     (λ c κs. search needs)
-    (λ c. simp (sym (rw (c .before .before .before .from-bytes .ensures) at (c .before .before .is-misrouted .ensures)) ∙ c .before .if1 .taken, c .thrown .ensures))
-    (λ c κs. search needs)
-    (λ c κs. search needs)
-    (λ c. simp (sym (rw (c .before .before .before .before .before .from-bytes .ensures) at (c .before .before .before .before .is-misrouted .ensures)) ∙ c .before .before .before .if1 .left, sym (c .before .before .is-duplicate .ensures) ∙ c .before .if2 .taken, c .thrown2 .ensures))
+    (λ c. search needs)
+    (λ c. reports-on (c .before .before .before .before .before .before .before .before .before .args .terms) (c .before .before .before .before .before .before .before .before .before .args .exchange .sending) (c .before .before .before .before .before .before .before .before .before .args .header) (c .reporting .ensures) (c .before .before .before .before .before .rules .ensures))
     (λ c κs. search needs)
     (λ c κs. search needs)
     (λ c. search needs)
-    (λ c. simp (sym (rw (c .before .before .before .before .before .before .before .before .before .from-bytes .ensures) at (c .before .before .before .before .before .before .before .before .is-misrouted .ensures)) ∙ c .before .before .before .before .before .before .before .if1 .left, sym (c .before .before .before .before .before .before .is-duplicate .ensures) ∙ c .before .before .before .before .before .if2 .left) (rw (c .before .before .before .before .with-saved .ensures, c .before .before .before .before .before .before .before .before .before .from-bytes .ensures) at (c .before .before .new-block .ensures))))
+    (λ c. reports-on (c .before .before .before .before .before .before .before .before .before .before .before .before .args .terms) (c .before .before .before .before .before .before .before .before .before .before .before .before .args .exchange .sending) (c .before .before .before .before .before .before .before .before .before .before .before .before .args .header) (c .reporting2 .ensures) (c .before .before .before .before .before .before .before .before .rules .ensures))
+    (λ c. search needs)
+    (λ c. silently (c .before .before .before .before .before .before .before .before .before .before .before .args .terms) (c .before .before .before .before .before .before .before .before .before .before .before .args .exchange .sending) (c .before .before .before .before .before .before .before .before .before .before .before .args .header) (sym (c .before .before .before .before .causes .ensures) ∙ c .before .before .before .if1 .left) (sym (c .before .is-over .ensures) ∙ c .if2 .left) (c .before .before .before .before .before .before .before .rules .ensures)))

@@ -7,7 +7,7 @@ use borrow.Author.Needs.{needs}
 use borrow.Author.Tests.{leb-true, leb-false}
 use Rattle.script.specs.Printed.{answerText}
 use Rattle.wire.proofs.Lent.{in-room, no-room}
-use Rattle.script.proofs.Printing.{number-short, answer-length, answer-fits}
+use Rattle.script.proofs.Printing.{answer-length, answer-fits}
 use Rattle.scribe.proofs.printed.print_answer.Statement.{statement}
 use Rattle.scribe.proofs.printed.print_answer.Tie as tie
 
@@ -18,14 +18,14 @@ whole : (c : tie.After-data-fits)
 whole c =
     let sized = c .before .before in
     let args = c .before .before .before .before .before .before .args in
-    c .data-fits .ensures ∙ answer-fits (args .number) (args .bytes .now) (args .note) _ _ _ (sized .before .number-size .ensures) (sized .number-size2 .ensures) (c .before .if1 .left)
+    c .data-fits .ensures ∙ answer-fits (args .number) (args .bytes .now) (args .note) _ _ _ (sized .before .number-size .ensures .0) (sized .number-size2 .ensures .0) (c .before .if1 .left)
 
 pub print-answer-spec : {M : Type 1} → statement M
 print-answer-spec =
     tie.close
     (tie.spec
     (λ c κs. search needs) (λ c κs. search needs)
-    (λ c. omega (arith, number-short (c .before .before .before .before .args .number), number-short (c .before .before .before .before .args .note)))
+    (λ c. omega (arith, c .before .number-size .ensures .1, c .number-size2 .ensures .1))
     (λ c. let start = c .before .before .before .before .before in no-room _ _ (omega (arith, answer-length (start .args .number) (start .args .bytes .now) (start .args .note))))
     (λ c. search needs) (λ c κs. search needs)
     (λ c κs. leb-true _ _ (sym (whole (c .before .before)) ∙ c .before .if2 .taken))

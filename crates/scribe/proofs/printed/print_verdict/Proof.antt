@@ -3,7 +3,7 @@ use mathlib.Core.Path.{refl, _∙_}
 use native.Mathlib.Omega.{arith}
 use borrow.Author.Needs.{needs}
 use Rattle.wire.proofs.Lent.{put-fits, in-room, no-room}
-use Rattle.script.proofs.Printing.{put-three, number-length, number-short, verdict-length}
+use Rattle.script.proofs.Printing.{put-three, number-length, verdict-length}
 use Rattle.scribe.proofs.printed.print_verdict.Statement.{statement}
 use Rattle.scribe.proofs.printed.print_verdict.Tie as tie
 
@@ -30,9 +30,9 @@ print-verdict-spec =
     tie.close
     (tie.spec
     (λ c κs. search needs)
-    (λ c. omega (arith, number-short (c .before .before .args .place)))
+    (λ c. omega (arith, c .number-size .ensures .1))
     (λ c κs. search needs)
-    (λ c. omega (arith, number-short (c .before .before .before .args .place), number-short (c .before .before .before .args .verdict)))
+    (λ c. omega (arith, c .before .number-size .ensures .1, c .number-size2 .ensures .1))
     (λ c. no-room _ _ (omega (arith, verdict-length (c .before .before .before .before .args .place) (c .before .before .before .before .args .verdict))))
     (λ c. search needs) (λ c κs. search needs)
     (λ c κs. omega (arith, number-length (c .before .before .before .before .before .before .before .before .before .before .args .place) 0x20))

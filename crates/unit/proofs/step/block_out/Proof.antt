@@ -12,7 +12,7 @@ abbrev put : tie.After-tells → tie.After-put-message
 put c = c .before .before .before .before .before
 
 abbrev start : tie.After-put-message → tie.Start
-start c = c .before .before .before .before .before .before .before
+start c = c .before .before .before .before .before .before .before .before .before
 
 pub block-out-spec : {M : Type 1} → statement M
 block-out-spec =

@@ -1,0 +1,5 @@
+pub mod Kept
+pub mod Silent
+pub mod Leaves
+pub mod Lost
+pub mod Names
