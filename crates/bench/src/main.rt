@@ -4,6 +4,8 @@
 // crate `talk`. Here bytes are read and
 // written, in large pieces. What is to be printed leaves before the next piece is waited for, so that bench can be used by hand and
 // behind a pipe as well as on a file.
+#![tactic(auto)]
+
 mod answer;
 mod run;
 
@@ -16,7 +18,7 @@ use talk::Bench;
 
 // What is carried from one line to the next: the unit, how many bytes are kept of a line whose end has not come, and how many wait to
 // be printed.
-#[derive(Drop)]
+#[derive(Clone, Copy)]
 struct Carried {
     bench: Bench,
     kept: usize,
@@ -24,7 +26,7 @@ struct Carried {
 }
 
 // What a piece of the input leaves, and whether more is to be read.
-#[derive(Drop)]
+#[derive(Clone, Copy)]
 struct Taken {
     carried: Carried,
     more: bool,

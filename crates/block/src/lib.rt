@@ -2,24 +2,26 @@
 // `wire`, and the cutting of a message into blocks crate `cut`.
 //
 // The model: types here, definitions and statements in `specs/`, and the proofs about them. The functions are crate `codec`.
+#![tactic(auto)]
+
 use header::Header;
 
 // What a write answers: how many bytes went out, length byte and sum included.
-#[derive(Drop)]
+#[derive(Clone, Copy)]
 pub enum Written {
     Bytes(usize),
     Refused(Refusal),
 }
 
 // What a read answers: the header, and the block length N, header and data.
-#[derive(Drop)]
+#[derive(Clone, Copy)]
 pub enum Read {
     Block { header: Header, length: usize },
     Refused(Refusal),
 }
 
 // What a block alone is refused by (01, "Refusal numbers and notes").
-#[derive(Drop)]
+#[derive(Clone, Copy)]
 pub enum Refusal {
     // 1: an output of less than 257 bytes.
     OutputShort,

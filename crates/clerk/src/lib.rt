@@ -4,6 +4,8 @@
 //
 // The state is a value, and no public function has a `requires`: each answers for every input, and its `ensures` is one equation
 // with a definition of `exchange` for all it answers and every byte it is lent.
+#![tactic(auto)]
+
 mod request;
 mod send;
 mod time;

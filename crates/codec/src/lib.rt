@@ -2,6 +2,8 @@
 //
 // Nothing here knows of the line or of transactions. No public function has a `requires`: each answers for every input, and its
 // `ensures` is an equation with a definition of `block`.
+#![tactic(auto)]
+
 ghost use Rattle.std.specs.Prelude.{◌≡◌, ◌+◌, ◌-◌, ◌≤◌, ◌++◌, length};
 ghost use Rattle.header.specs.Header.{first_ten};
 ghost use Rattle.wire.specs.Bytes.{part};

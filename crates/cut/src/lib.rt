@@ -2,6 +2,8 @@
 //
 // Nothing here knows of the line or of transactions. No public function has a `requires`: each answers for every
 // input, and its `ensures` is an equation with a definition of `specs/`.
+#![tactic(auto)]
+
 ghost use Rattle.std.specs.Prelude.{◌≡◌};
 ghost use Rattle.cut.specs.Blocks.{block_count, cut_of};
 
@@ -17,7 +19,7 @@ pub const MOST_BLOCKS: u16 = 17;
 const LAST_NUMBER: usize = 32767;
 
 // One block of a message: its header, and its part of the message's data, `length` bytes from `start` on.
-#[derive(Drop)]
+#[derive(Clone, Copy)]
 pub enum Cut {
     Block {
         header: Header,

@@ -3,6 +3,8 @@
 // change the state through these functions alone.
 //
 // No public function has a `requires`: each answers for every input, and its `ensures` is one equation with a definition of `exchange`.
+#![tactic(auto)]
+
 mod flags;
 mod note;
 mod range;

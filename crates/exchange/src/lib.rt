@@ -4,13 +4,15 @@
 // and flags.
 //
 // The model: types here, definitions and statements in `specs/`, and the proofs about them. The functions are crate `clerk`.
+#![tactic(auto)]
+
 use header::Header;
 use place::{Incoming, Own, Reply, Standing};
 use reports::Reports;
 
 // The state: four own places, four incoming places, the saved header, the transaction numbers, what is being sent, and the reports that
 // wait.
-#[derive(Drop)]
+#[derive(Clone, Copy)]
 pub struct Exchange {
     pub own: [Own; 4],
     pub incoming: [Incoming; 4],
@@ -21,14 +23,14 @@ pub struct Exchange {
 }
 
 // The header of the block that came last and was no duplicate (E4 7.4.2), if any is saved; "none at a start".
-#[derive(Drop)]
+#[derive(Clone, Copy)]
 pub struct Saved {
     pub any: bool,
     pub header: [u8; 10],
 }
 
 // Transaction numbers: the last one given, and that of the latest own transaction to get a verdict. 0 is no number.
-#[derive(Drop)]
+#[derive(Clone, Copy)]
 pub struct Numbers {
     pub last: u16,
     pub latest: u16,
@@ -36,7 +38,7 @@ pub struct Numbers {
 
 // The one message that is being sent or held: whose it is, and how many data bytes it has. A report of stream 9 has no place: what is
 // being sent is told by its function and its number, and what it shows lies with those that wait (`Reports`).
-#[derive(Drop)]
+#[derive(Clone, Copy)]
 pub enum Sending {
     Nothing,
     Primary {
@@ -56,7 +58,7 @@ pub enum Sending {
 
 // The message to be cut into blocks: its header, whose block number and E do not count, for each block gets its own, and how many data
 // bytes lie in the send area; or a report, of which nothing lies there.
-#[derive(Drop)]
+#[derive(Clone, Copy)]
 pub enum Outgoing {
     Nothing,
     Message { header: Header, length: u16 },
@@ -64,7 +66,7 @@ pub enum Outgoing {
 }
 
 // The part of the state that a report touches: the last number given, what is being sent, and the reports that wait.
-#[derive(Drop)]
+#[derive(Clone, Copy)]
 pub struct Outbox {
     pub last: u16,
     pub sending: Sending,
@@ -72,7 +74,7 @@ pub struct Outbox {
 }
 
 // What judging leaves: the next state, the note, and flags.
-#[derive(Drop)]
+#[derive(Clone, Copy)]
 pub struct Judged {
     pub exchange: Exchange,
     pub note: Note,
@@ -80,7 +82,7 @@ pub struct Judged {
 }
 
 // What a block that was judged comes to, with each note's number in 01.
-#[derive(Drop)]
+#[derive(Clone, Copy)]
 pub enum Note {
     // 21: kept.
     Kept,
@@ -99,7 +101,7 @@ pub enum Note {
 }
 
 // "flags for places that got a verdict, completed or were dropped" (01, "Refusal numbers and notes"), one for each place.
-#[derive(Drop)]
+#[derive(Clone, Copy)]
 pub struct Flags {
     // Own places that got their verdict in this call.
     pub verdicts: [bool; 4],
@@ -110,14 +112,14 @@ pub struct Flags {
 }
 
 // What a tick, or the end of a send, leaves: the next state, and flags.
-#[derive(Drop)]
+#[derive(Clone, Copy)]
 pub struct Changed {
     pub exchange: Exchange,
     pub flags: Flags,
 }
 
 // A primary that is asked for.
-#[derive(Drop)]
+#[derive(Clone, Copy)]
 pub struct Primary {
     // The caller's source ID, the upper half of the system bytes.
     pub source: u16,
@@ -127,21 +129,21 @@ pub struct Primary {
 }
 
 // What a request leaves.
-#[derive(Drop)]
+#[derive(Clone, Copy)]
 pub struct Requested {
     pub exchange: Exchange,
     pub asked: Asked,
 }
 
 // What a request comes to: taken, for this place, or refused.
-#[derive(Drop)]
+#[derive(Clone, Copy)]
 pub enum Asked {
     Taken(usize),
     Refused(Refusal),
 }
 
 // Refusals 5 to 11 of 01's table.
-#[derive(Drop)]
+#[derive(Clone, Copy)]
 pub enum Refusal {
     // 5: "stream above 127; function even in a primary; in a reply, neither primary + 1 nor 0".
     Message,
@@ -160,7 +162,7 @@ pub enum Refusal {
 }
 
 // An own place: the primary, how it stands, and what is kept of its reply.
-#[derive(Drop)]
+#[derive(Clone, Copy)]
 pub enum OwnReading {
     // "place above 3 or free"
     NoPlace,
@@ -172,7 +174,7 @@ pub enum OwnReading {
 }
 
 // An incoming place: the header of its first block, how many data bytes are kept, whether the message is complete, and our reply.
-#[derive(Drop)]
+#[derive(Clone, Copy)]
 pub enum IncomingReading {
     // "place above 3 or free"
     NoPlace,
@@ -185,7 +187,7 @@ pub enum IncomingReading {
 }
 
 // Our reply to an incoming message.
-#[derive(Drop)]
+#[derive(Clone, Copy)]
 pub enum ReplyStage {
     // None is to be given, or not yet: W = 0, or the message is not complete.
     NotOwed,

@@ -4,7 +4,7 @@ ghost use Rattle.header.specs.Header.{header_bytes, header_of, numbered_of, top_
 
 use wire::{pair, quad, quarters};
 
-#[derive(Drop)]
+#[derive(Clone, Copy)]
 pub struct Header {
     // R-bit (E4 6.2): set in a message to the host.
     pub r: bool,

@@ -3,6 +3,8 @@
 //
 // The state is a value, and `judge` has no `requires`: it answers for every input, and its `ensures` is one equation for all it answers
 // and every byte of the room.
+#![tactic(auto)]
+
 mod judging;
 
 pub use judging::judge;

@@ -2,6 +2,8 @@
 // what is proved of its life, is crate `place`.
 //
 // No public function has a `requires`: each answers for every input, and its `ensures` is an equation with a definition of `place`.
+#![tactic(auto)]
+
 mod arriving;
 mod fate;
 pub mod incoming;

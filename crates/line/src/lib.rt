@@ -7,6 +7,8 @@
 // A call of the unit on the line is `byte`, `tick` or `drained`, then the judging of what went up, then, where a block of ours
 // is to follow, `ask`, and last `settle`, which puts out the ENQ of a block that is held while the line is idle. `withdraw` is for a
 // held block whose message is gone.
+#![tactic(auto)]
+
 mod line;
 mod phase;
 mod range;

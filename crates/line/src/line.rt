@@ -6,7 +6,7 @@ use crate::phase::Phase;
 use crate::step::{Out, Remark, Step, Told};
 use settings::Limits;
 
-#[derive(Drop)]
+#[derive(Clone, Copy)]
 pub struct Line {
     // Whether a block of ours is to be sent as soon as the line is idle.
     pub held: bool,

@@ -1,7 +1,7 @@
 // Where the line is (01, "The line"). Each number stands in the phases in which it means something, and nowhere else.
 
 // Why a block that came is not taken.
-#[derive(Drop)]
+#[derive(Clone, Copy)]
 pub enum Fault {
     // Its length was not 10 to 254.
     Length,
@@ -10,7 +10,7 @@ pub enum Fault {
 }
 
 // A block of which the length has come.
-#[derive(Drop)]
+#[derive(Clone, Copy)]
 pub struct Arrival {
     // N of the block.
     pub length: u8,
@@ -22,7 +22,7 @@ pub struct Arrival {
     pub high: u8,
 }
 
-#[derive(Drop)]
+#[derive(Clone, Copy)]
 pub enum Phase {
     Idle,
     // Our ENQ is out.

@@ -6,7 +6,7 @@ use crate::line::Line;
 use crate::phase::Fault;
 
 // What goes out.
-#[derive(Drop)]
+#[derive(Clone, Copy)]
 pub enum Out {
     Nothing,
     // One handshake code.
@@ -16,7 +16,7 @@ pub enum Out {
 }
 
 // What the transactions are told, as any device tells them.
-#[derive(Drop)]
+#[derive(Clone, Copy)]
 pub enum Told {
     Nothing,
     // The whole block goes out in this call.
@@ -30,7 +30,7 @@ pub enum Told {
 }
 
 // What has only a note, or not even that: nothing comes of it above the line.
-#[derive(Drop)]
+#[derive(Clone, Copy)]
 pub enum Remark {
     Nothing,
     // The block is held, for the far end goes first.
@@ -43,7 +43,7 @@ pub enum Remark {
     Bad(Fault),
 }
 
-#[derive(Drop)]
+#[derive(Clone, Copy)]
 pub struct Step {
     pub line: Line,
     pub out: Out,

@@ -3,12 +3,14 @@
 // is kept anywhere.
 //
 // The model: types here, definitions and statements in `specs/`, and the proofs about them. The calls are crate `unit`.
+#![tactic(auto)]
+
 use exchange::{Exchange, Flags};
 use line::{Fault, Line};
 use settings::{Fifths, Limits, Seconds, Tenths, Terms};
 
 // 01's table, and which end this is.
-#[derive(Drop)]
+#[derive(Clone, Copy)]
 pub struct Setup {
     // The host is the slave, the equipment the master (E4 5.5).
     pub host: bool,
@@ -26,21 +28,21 @@ pub struct Setup {
 }
 
 // In ticks.
-#[derive(Drop)]
+#[derive(Clone, Copy)]
 pub struct Settings {
     pub limits: Limits,
     pub terms: Terms,
 }
 
 // Whether each setting is in its range.
-#[derive(Drop)]
+#[derive(Clone, Copy)]
 pub enum Ranged {
     Settings(Settings),
     OutOfRange,
 }
 
 // The unit's state.
-#[derive(Drop)]
+#[derive(Clone, Copy)]
 pub struct Link {
     pub settings: Settings,
     pub line: Line,
@@ -52,7 +54,7 @@ pub struct Link {
 }
 
 // What a call answers.
-#[derive(Drop)]
+#[derive(Clone, Copy)]
 pub struct Answer {
     // The next state; of a refused call the one that it was given.
     pub link: Link,
@@ -65,7 +67,7 @@ pub struct Answer {
 }
 
 // What a call came to.
-#[derive(Drop)]
+#[derive(Clone, Copy)]
 pub enum Outcome {
     Done,
     // A message was accepted for sending, or a place released: its place.
@@ -74,7 +76,7 @@ pub enum Outcome {
 }
 
 // Refusals 1 to 11 of 01's table.
-#[derive(Drop)]
+#[derive(Clone, Copy)]
 pub enum Refusal {
     // 1: "output buffer under 257 bytes".
     OutputShort,
@@ -89,7 +91,7 @@ pub enum Refusal {
 }
 
 // "Every call on the line also answers a note".
-#[derive(Drop)]
+#[derive(Clone, Copy)]
 pub enum Note {
     // 20.
     Nothing,
@@ -104,14 +106,14 @@ pub enum Note {
 }
 
 // Whether refusals 1 to 3 let a call pass.
-#[derive(Drop)]
+#[derive(Clone, Copy)]
 pub enum Gate {
     Open,
     Shut(Refusal),
 }
 
 // A call midway, once the transactions were told: what they are then, and note and flags so far.
-#[derive(Drop)]
+#[derive(Clone, Copy)]
 pub struct Midway {
     pub exchange: Exchange,
     pub note: Note,
@@ -119,7 +121,7 @@ pub struct Midway {
 }
 
 // What the courier leaves: the line, and which block of the message being sent is on its way or held.
-#[derive(Drop)]
+#[derive(Clone, Copy)]
 pub struct Carried {
     pub line: Line,
     pub block: u16,

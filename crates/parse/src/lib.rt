@@ -3,6 +3,8 @@
 //
 // No public function has a `requires`: each answers for every input, and its `ensures` is an equation with a definition of `text`, for
 // the result and every lent byte.
+#![tactic(auto)]
+
 mod decimal;
 mod fields;
 mod hex;

@@ -10,6 +10,8 @@
 //
 // `run` says what the first three print. The last two print 4 if a setting is out of its range. Else they print 0, and for each
 // CALLS or CALL a space and what came of it: `trial` and `traffic` have the rest. A line that is none of these is answered by `?`.
+#![tactic(auto)]
+
 mod run;
 mod show;
 mod text;
@@ -17,7 +19,7 @@ mod traffic;
 mod trial;
 
 // What a piece of the input leaves.
-#[derive(Drop)]
+#[derive(Clone, Copy)]
 enum Input {
     // How many bytes of a line whose end has not come are kept. More may come.
     Kept(usize),

@@ -2,14 +2,14 @@
 ghost use Rattle.std.specs.Prelude.{◌≤◌, length};
 
 // What a field says: a number, or how many bytes were in it.
-#[derive(Drop)]
+#[derive(Clone, Copy)]
 pub(crate) enum Field {
     Value(u16),
     Unreadable,
 }
 
 // The first fields of a text, numbers, in their order, and where the last of them ends: at a mark, or at the end of the text.
-#[derive(Drop)]
+#[derive(Clone, Copy)]
 pub(crate) struct Numbers {
     pub readable: bool,
     pub values: [u16; 5],
@@ -17,7 +17,7 @@ pub(crate) struct Numbers {
 }
 
 // What a field says that names an end of the link.
-#[derive(Drop)]
+#[derive(Clone, Copy)]
 pub(crate) enum Role {
     Host,
     Equipment,
@@ -25,7 +25,7 @@ pub(crate) enum Role {
 }
 
 // What a field of one byte says, or two hex digits.
-#[derive(Drop)]
+#[derive(Clone, Copy)]
 pub(crate) enum One {
     Byte(u8),
     Unreadable,

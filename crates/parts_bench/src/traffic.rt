@@ -52,7 +52,7 @@ use room::Message;
 use settings::{Agreed, MessagePanel, Seconds, Terms};
 
 // A call. Its bytes, `count` of them, lie in a buffer of their own.
-#[derive(Drop)]
+#[derive(Clone, Copy)]
 enum Call {
     Open {
         primary: Primary,
@@ -78,7 +78,7 @@ enum Call {
 }
 
 // A call that changes nothing.
-#[derive(Drop)]
+#[derive(Clone, Copy)]
 enum Look {
     Own(usize),
     Incoming(usize),
@@ -91,7 +91,7 @@ enum Look {
 }
 
 // The place that a field names.
-#[derive(Drop)]
+#[derive(Clone, Copy)]
 enum Which {
     Own(usize),
     Incoming(usize),

@@ -23,14 +23,14 @@ use line::{Line, Out, Remark, Step, Told};
 use settings::{Fifths, Limits, Panel, Taken, Tenths};
 
 // The line amid the calls of a field, and whether one of them has shown something.
-#[derive(Drop)]
+#[derive(Clone, Copy)]
 struct Trial {
     line: Line,
     shown: bool,
 }
 
 // What the calls of a field leave: the line, if the field could be read.
-#[derive(Drop)]
+#[derive(Clone, Copy)]
 enum Made {
     Line(Line),
     Unreadable,

@@ -6,10 +6,12 @@
 // primary's last block was put out, was acknowledged or failed, is offered blocks, and counts ticks.
 //
 // The model: types here, definitions and statements in `specs/`, and the proofs about them. The functions are crate `life`.
+#![tactic(auto)]
+
 use header::Header;
 
 // What all blocks of a message share, beside device ID and system bytes.
-#[derive(Drop)]
+#[derive(Clone, Copy)]
 pub struct Kind {
     pub w: bool,
     pub stream: u8,
@@ -17,7 +19,7 @@ pub struct Kind {
 }
 
 // A message that is arriving, a reply to us or a message of the far end: blocks of it are kept, and more are to come.
-#[derive(Drop)]
+#[derive(Clone, Copy)]
 pub struct Arriving {
     // Ticks since the last block kept (T4).
     pub timer: u32,
@@ -29,7 +31,7 @@ pub struct Arriving {
 }
 
 // What a tick leaves of it.
-#[derive(Drop)]
+#[derive(Clone, Copy)]
 pub enum Waited {
     // "T4 beyond its limit breaks the message."
     Broken,
@@ -37,7 +39,7 @@ pub enum Waited {
 }
 
 // A place of an own transaction: from the primary's acceptance to the release of its verdict.
-#[derive(Drop)]
+#[derive(Clone, Copy)]
 pub struct Own {
     // The primary's header. Block number and E are each block's own, and 0 here.
     pub header: [u8; 10],
@@ -45,7 +47,7 @@ pub struct Own {
 }
 
 // How far it is.
-#[derive(Drop)]
+#[derive(Clone, Copy)]
 pub enum OwnStage {
     Free,
     // The primary is being sent or held.
@@ -60,7 +62,7 @@ pub enum OwnStage {
 }
 
 // What is known of a reply: W, stream and function of its blocks, and how many of its data bytes are kept.
-#[derive(Drop)]
+#[derive(Clone, Copy)]
 pub struct Reply {
     pub w: bool,
     pub stream: u8,
@@ -69,7 +71,7 @@ pub struct Reply {
 }
 
 // The verdicts of an own place, and their numbers in 01 ("Messages").
-#[derive(Drop)]
+#[derive(Clone, Copy)]
 pub enum Verdict {
     // 1: "W = 0, all acknowledged".
     Sent,
@@ -88,7 +90,7 @@ pub enum Verdict {
 }
 
 // How a place stands to its user.
-#[derive(Drop)]
+#[derive(Clone, Copy)]
 pub enum Standing {
     // No message is in it.
     Free,
@@ -98,7 +100,7 @@ pub enum Standing {
 }
 
 // A place of a message of the far end: from its first block until it is released or dropped.
-#[derive(Drop)]
+#[derive(Clone, Copy)]
 pub struct Incoming {
     // The header of its first block.
     pub header: Header,
@@ -106,7 +108,7 @@ pub struct Incoming {
 }
 
 // How far it is.
-#[derive(Drop)]
+#[derive(Clone, Copy)]
 pub enum IncomingStage {
     Free,
     // Blocks are kept, and more are to come.
@@ -118,7 +120,7 @@ pub enum IncomingStage {
 }
 
 // How our reply ended.
-#[derive(Drop)]
+#[derive(Clone, Copy)]
 pub enum End {
     Sent,
     Failed,
@@ -126,7 +128,7 @@ pub enum End {
 
 // What becomes of a block of a message (01, "A block that goes up is judged in this order"): the same for a reply to us and for a
 // message of the far end.
-#[derive(Drop)]
+#[derive(Clone, Copy)]
 pub enum Fate {
     // Rule 4: it has no data and should have some.
     Empty,

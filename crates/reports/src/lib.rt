@@ -2,6 +2,8 @@
 // ten bytes that the one under way shows. When a report is due, when it starts and which number it takes is crate `exchange`.
 //
 // No public function has a `requires`: each answers for every input, and its `ensures` is an equation with a definition of `specs/`.
+#![tactic(auto)]
+
 ghost use Rattle.std.specs.Prelude.{◌≡◌};
 ghost use Rattle.reports.specs.Reports.{added, less_one, no_report, no_reports, oldest, one_more, reports_in_range, showing, without_oldest};
 
@@ -12,13 +14,13 @@ const MOST_WAITING: usize = 8;
 const MOST_DROPPED: u32 = 4294967295;
 
 // A report: its function, and the ten header bytes that it shows.
-#[derive(Drop)]
+#[derive(Clone, Copy)]
 pub struct Report {
     pub function: u8,
     pub header: [u8; 10],
 }
 
-#[derive(Drop)]
+#[derive(Clone, Copy)]
 pub struct Reports {
     // What the report under way shows.
     pub shown: [u8; 10],

@@ -2,9 +2,10 @@
 // it; no other crate but its code knows an address. Nothing here knows of blocks or of transactions.
 //
 // The model: the type here, definitions and statements in `specs/`, and the proofs about them. The functions are crate `store`.
+#![tactic(auto)]
 
 // Whose bytes are meant.
-#[derive(Drop)]
+#[derive(Clone, Copy)]
 pub enum Message {
     // Those of the reply to the primary in an own place.
     Reply(usize),

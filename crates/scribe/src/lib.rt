@@ -3,6 +3,8 @@
 //
 // Nothing here runs a command, and nothing reads or writes a file. No public function has a `requires`: each answers for every input,
 // and its `ensures` says the result and every lent byte.
+#![tactic(auto)]
+
 mod command;
 mod printed;
 

@@ -2,11 +2,13 @@
 // line says is crate `text`.
 //
 // The model: types here, definitions and statements in `specs/`, and the proofs about them. The functions are crate `scribe`.
+#![tactic(auto)]
+
 use exchange::Primary;
 use link::Setup;
 
 // What a line asks for.
-#[derive(Drop)]
+#[derive(Clone, Copy)]
 pub enum Command {
     // "A line it can't read".
     Unreadable,
@@ -39,7 +41,7 @@ pub enum Command {
 }
 
 // What is printed for a line.
-#[derive(Drop)]
+#[derive(Clone, Copy)]
 pub enum Printed {
     // "refusal number or 0, bytes out in hex or `-`, note".
     Answer { number: u8, note: u8 },

@@ -2,6 +2,8 @@
 // crate `table`.
 //
 // A place outside the table is as a free one, and putting one there changes nothing. So no function has a `requires`.
+#![tactic(auto)]
+
 mod find;
 mod incoming;
 mod number;

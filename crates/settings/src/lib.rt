@@ -4,6 +4,8 @@
 // "Panel steps and ticks are kept apart": each kind of step has a type of its own, and a `Ticks` is made by the conversions of
 // this crate alone, for its field is private. So no timer is held against a limit that was not converted, and none is
 // converted twice.
+#![tactic(auto)]
+
 mod limits;
 mod panel;
 mod terms;

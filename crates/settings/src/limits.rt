@@ -5,7 +5,7 @@ ghost use Rattle.settings.specs.Limits.{limits_in_range, limits_of, taken_of};
 use crate::panel::{Fifths, Tenths, Ticks};
 
 // As on the panel.
-#[derive(Drop)]
+#[derive(Clone, Copy)]
 pub struct Panel {
     pub t1: Tenths,
     pub t2: Fifths,
@@ -15,7 +15,7 @@ pub struct Panel {
 }
 
 // In ticks.
-#[derive(Drop)]
+#[derive(Clone, Copy)]
 pub struct Limits {
     pub t1: Ticks,
     pub t2: Ticks,
@@ -24,7 +24,7 @@ pub struct Limits {
 }
 
 // What taking the settings answers.
-#[derive(Drop)]
+#[derive(Clone, Copy)]
 pub enum Taken {
     Limits(Limits),
     OutOfRange,

@@ -3,19 +3,19 @@ ghost use Rattle.std.specs.Prelude.{◌≡◌};
 ghost use Rattle.settings.specs.Panel.{fifths_in_range, fifths_ticks, seconds_in_range, seconds_ticks, tenths_in_range, tenths_ticks};
 
 // T1, in steps of 0.1 s.
-#[derive(Drop)]
+#[derive(Clone, Copy)]
 pub struct Tenths(pub u16);
 
 // T2, in steps of 0.2 s.
-#[derive(Drop)]
+#[derive(Clone, Copy)]
 pub struct Fifths(pub u16);
 
 // T3 and T4, in steps of 1 s.
-#[derive(Drop)]
+#[derive(Clone, Copy)]
 pub struct Seconds(pub u16);
 
 // Ticks of 0.1 s. Only the conversions below make one.
-#[derive(Drop)]
+#[derive(Clone, Copy)]
 pub struct Ticks(u32);
 
 // Whether `number` is one of `low` to `high`.

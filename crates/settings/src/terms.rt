@@ -5,7 +5,7 @@ ghost use Rattle.settings.specs.Terms.{agreed_of, terms_in_range, terms_of};
 use crate::panel::{Seconds, Ticks};
 
 // As on the panel.
-#[derive(Drop)]
+#[derive(Clone, Copy)]
 pub struct MessagePanel {
     pub t3: Seconds,
     pub t4: Seconds,
@@ -18,7 +18,7 @@ pub struct MessagePanel {
 }
 
 // In ticks.
-#[derive(Drop)]
+#[derive(Clone, Copy)]
 pub struct Terms {
     pub t3: Ticks,
     pub t4: Ticks,
@@ -28,7 +28,7 @@ pub struct Terms {
 }
 
 // What taking the settings answers.
-#[derive(Drop)]
+#[derive(Clone, Copy)]
 pub enum Agreed {
     Terms(Terms),
     OutOfRange,

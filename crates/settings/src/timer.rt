@@ -5,7 +5,7 @@ ghost use Rattle.settings.specs.Timer.{ticked};
 use crate::panel::Ticks;
 
 // What a tick makes of a timer.
-#[derive(Drop)]
+#[derive(Clone, Copy)]
 pub enum Timer {
     // It exceeds its limit.
     RunsOut,

@@ -4,7 +4,7 @@ use link::Link;
 use std::num::{wrapping_add_u16, wrapping_add_u64};
 
 // What a row of ticks leaves: the unit, and the sum so far.
-#[derive(Drop)]
+#[derive(Clone, Copy)]
 struct Ticked {
     link: Link,
     sum: u64,

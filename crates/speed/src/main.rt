@@ -12,6 +12,8 @@
 // in each: so it is TURNS, and 2 more for each block of 258 bytes (EOT at its ENQ, ACK at its end). To that of `waiting` the eight
 // timers are added: it starts anew every 1,000 ticks, so that none runs out, and each is at the ticks since then. That of `copy` is
 // `block` after one was added in each turn: TURNS + 1, modulo 65,536.
+#![tactic(auto)]
+
 mod loops;
 mod ready;
 mod text;

@@ -1,7 +1,7 @@
 // Reading the two arguments.
 
 // How many turns are asked for.
-#[derive(Drop)]
+#[derive(Clone, Copy)]
 pub(crate) enum Turns {
     Count(u64),
     Unreadable,

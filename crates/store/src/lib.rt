@@ -1,6 +1,8 @@
 // The lent room at work (01, "Messages"): a message's bytes are kept in it, and read. What that comes to is said in crate `room`.
 //
 // No public function has a `requires`: each answers for every input, and its `ensures` is an equation with a definition of `room`.
+#![tactic(auto)]
+
 ghost use Rattle.std.specs.Prelude.{◌≡◌, ◌<◌};
 ghost use Rattle.room.specs.Room.{bytes_in, has_place, in_area, kept_in, place_of, places, start_of};
 
@@ -69,7 +71,7 @@ pub fn keep(room: &mut [u8], message: Message, offset: usize, data: &[u8])
 {
     if lies(room, message, offset, data.len()) {
         let at = start(message) + offset;
-        bytes::copy(data, &mut room[at..]);
+        room[at..at + data.len()].copy_from_slice(data);
     }
 }
 

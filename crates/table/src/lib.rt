@@ -4,9 +4,11 @@
 //
 // The model: what a search finds is here, definitions and statements in `specs/`, and the proofs about them. The functions are crate
 // `seek`.
+#![tactic(auto)]
+
 
 // Which place of four is meant.
-#[derive(Drop)]
+#[derive(Clone, Copy)]
 pub enum Found {
     At(usize),
     Nowhere,

@@ -1,18 +1,20 @@
 // What a line of bench does (01, "Bench program and proved table"): the calls that it makes of the unit, and what is printed for it.
 //
 // The model: types here, definitions and statements in `specs/`, and the proofs about them. The program is crate `bench`.
+#![tactic(auto)]
+
 use link::Link;
 use script::Printed;
 
 // The unit that lines are about, and whether there is one yet: a line "before the first start that was not refused, prints `?`".
-#[derive(Drop)]
+#[derive(Clone, Copy)]
 pub struct Bench {
     pub started: bool,
     pub link: Link,
 }
 
 // What a line came to: the unit that the next one is about, what is to be printed, and how many bytes went out.
-#[derive(Drop)]
+#[derive(Clone, Copy)]
 pub struct Shown {
     pub bench: Bench,
     pub printed: Printed,
@@ -20,7 +22,7 @@ pub struct Shown {
 }
 
 // What the calls of a line came to: the next unit, the last call's number and note, and how many bytes they put out.
-#[derive(Drop)]
+#[derive(Clone, Copy)]
 pub struct Ran {
     pub link: Link,
     pub number: u8,

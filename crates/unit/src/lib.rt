@@ -4,6 +4,8 @@
 //
 // No public function has a `requires`: each checks its own inputs, and its `ensures` is one equation with a definition of `link` for
 // all that it answers and every byte it is lent.
+#![tactic(auto)]
+
 mod admit;
 mod answer;
 mod call;

@@ -10,17 +10,13 @@ use Rattle.wire.specs.Theorems.{PutsAllOrNothing, FillsAllOrNothing}
 use Rattle.wire.proofs.Choice.{chosen}
 use Rattle.wire.proofs.Parts.{part_of_front}
 
--- a copy into the part of `out` from index i on, once that part is back
+-- a copy into the part of `out` that begins at index i, once that part is back
 pub copied : (out : List ℕ) (i : ℕ) (bs back : List ℕ) → i + length bs ≤ length out
-    → back ≡ take (length bs) bs ++ drop (length bs) (take (length out - i) (drop i out))
-    → put_mid i (length out - i) out back ≡ splice out i bs
+    → back ≡ bs → put_mid i (i + length bs - i) out back ≡ splice out i bs
 unfolding splice
 copied out i bs back fits e =
-    let k : ℕ = length out - i in
-    let whole : i + k ≡ length out = omega arith in
-    let none : drop k (drop i out) ≡ [] = drop-drop k i out ∙ ap (λ (n : ℕ). drop n out) whole ∙ drop-length out in
-    let rest : take k (drop i out) ≡ drop i out = take_all k (drop i out) (omega (arith, length-drop i out)) in
-    rw (e, none, append-nil, rest, take-length, drop-drop)
+    let k : i + length bs - i ≡ length bs = omega arith in
+    rw (e, k, drop-drop (length bs) i out) refl
 
 -- bytes put behind a front belong to the front
 pub front_more : (out p bs : List ℕ) (n : ℕ) → length p ≡ n → splice (on_front p out) n bs ≡ on_front (p ++ bs) out

@@ -6,6 +6,8 @@
 // No public function has a `requires`: each answers for every input, and its `ensures`
 // is an equation with a definition of `specs/`. There too is what the crates above share: a part of a list and what lent
 // memory holds after a write (`Bytes`, `Lent`), and what every public contract owes (`Determined`).
+#![tactic(auto)]
+
 mod memory;
 mod message;
 mod number;

@@ -3,6 +3,7 @@ ghost use Rattle.std.specs.Prelude.{◌≡◌};
 ghost use Rattle.wire.specs.Sum.{checksum_of, sum_with};
 
 // The sum after one byte more.
+#[tactic(auto, unfolding(crate::specs::Sum::sum_with))]
 pub fn sum_with(sum: u16, byte: u8) -> u16
     ensures { result ≡ sum_with sum byte }
 {

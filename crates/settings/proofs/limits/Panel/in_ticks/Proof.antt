@@ -9,4 +9,4 @@ in_ticks_spec =
     (tie.spec
     (λ c κs. search rules)
     (λ c κs. search rules)
-    (λ c. rw (c.before.ticks.ensures, c.ticks2.ensures)))
+    (λ c. rw (c.before.ticks.ensures, c.ticks-2.ensures)))

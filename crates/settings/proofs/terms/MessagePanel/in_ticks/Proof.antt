@@ -9,4 +9,4 @@ in_ticks_spec =
     (tie.spec
     (λ c κs. search rules)
     (λ c κs. search rules)
-    (λ c. simp (c.before.before.ticks.ensures, c.before.ticks2.ensures)))
+    (λ c. simp (c.before.before.ticks.ensures, c.before.ticks-2.ensures)))
