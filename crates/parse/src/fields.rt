@@ -1,12 +1,27 @@
 // The fields of a line: one space between two (docs/READINGS.md, 27). Two spaces have an empty field between them, and nothing reads as one.
 ghost use Rattle.std.specs.Prelude.{◌≡◌};
 ghost use Rattle.text.specs.Field.{behind_of, field_of, letter_of};
+ghost use Rattle.text.specs.Find.{index_of};
+
+// Where the first such byte of a text stands: at its end, where it has none.
+fn find(text: &[u8], byte: u8) -> usize
+    ensures { result ≡ index_of byte text.now }
+{
+    let mut i: usize = 0;
+    while i < text.len() {
+        if text[i] == byte {
+            return i;
+        }
+        i += 1;
+    }
+    i
+}
 
 // The first field of a text: what stands before its first space, or all of it.
 pub fn field(text: &[u8]) -> &[u8]
     ensures { result.now ≡ field_of text.now }
 {
-    let end = bytes::scan::find(text, 0, text.len(), b' ');
+    let end = find(text, b' ');
     &text[0..end]
 }
 
@@ -14,7 +29,7 @@ pub fn field(text: &[u8]) -> &[u8]
 pub fn behind(text: &[u8]) -> &[u8]
     ensures { result.now ≡ behind_of text.now }
 {
-    let end = bytes::scan::find(text, 0, text.len(), b' ');
+    let end = find(text, b' ');
     if end < text.len() {
         return &text[end + 1..];
     }

@@ -8,7 +8,7 @@ use native.Mathlib.Omega.{arith}
 use lib.Dec.{eqb, ltb}
 use lib.ListN.{length, take, drop, get_or, length-take}
 use borrow.Author.Tests.{eqb-true, ltb-false}
-use Rattle.bytes.specs.Bytes.{index_of, index_after}
+use Rattle.text.specs.Find.{index_of, index_after}
 use Rattle.wire.specs.Bytes.{Bytes as AreBytes}
 use Rattle.text.specs.Field.{field_of, behind_of, letter_of}
 use Rattle.text.specs.Number.{number_of}

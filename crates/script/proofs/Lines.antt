@@ -8,7 +8,7 @@ use native.Mathlib.Omega.{arith}
 use lib.Dec.{eqb, ltb}
 use lib.ListN.{length}
 use borrow.Author.Tests.{le-ltb, lt-ltb, ltb-true, ltb-false, eqb-true}
-use Rattle.bytes.specs.Bytes.{index_of, index_after}
+use Rattle.text.specs.Find.{index_of, index_after}
 use Rattle.wire.specs.Lent.{on_front}
 use Rattle.wire.proofs.Choice.{either, chosen}
 use Rattle.text.specs.Field.{field_of, behind_of, letter_of}

@@ -1,6 +1,6 @@
 -- 01's commands: all definitions on the way from a line to its command are run. Assumes nothing.
 use mathlib.Core.Path.{refl}
-use Rattle.bytes.specs.Bytes.{index_after, index_of, slice}
+use Rattle.text.specs.Find.{index_after, index_of}
 use Rattle.wire.specs.Lent.{splice, on_front}
 use Rattle.text.specs.Field.{field_of, behind_of, letter_of}
 use Rattle.text.specs.Number.{number_of, with_digits, with_digit}

@@ -44,7 +44,7 @@ use Rattle.script.specs.Hex.{glyph_of, hex_of}
 use Rattle.script.specs.Printed.{number_text, data_fits, digits_of}
 use Rattle.talk.specs.Answer.{start_shown, line_done}
 use Rattle.talk.specs.Run.{bytes_run, ticks_run}
-use Rattle.bytes.specs.Bytes.{index_after, index_of, slice}
+use Rattle.text.specs.Find.{index_after, index_of}
 use Rattle.talk.specs.Listing.{talked, ListingPrinted}
 use Rattle.talk.specs.Overtaken.{OvertakenPrinted}
 use Rattle.talk.specs.Reported.{ReportPrinted}

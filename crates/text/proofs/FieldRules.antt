@@ -6,7 +6,7 @@ use native.Mathlib.Omega.{arith}
 use lib.ListN.{length, take, drop, get_or}
 use lib.Seq.{take-length, take_at, drop-append-add}
 use borrow.Author.Tests.{ne_eqb}
-use Rattle.bytes.specs.Bytes.{index_after, index_of}
+use Rattle.text.specs.Find.{index_after, index_of}
 use Rattle.text.specs.Field.{field_of, behind_of, letter_of}
 use Rattle.text.specs.Theorems.{NoSpace, FieldsExactly, LetterExactly}
 use Rattle.text.proofs.Scanning.{nothing_behind}

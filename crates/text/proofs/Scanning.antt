@@ -9,17 +9,12 @@ use lib.Dec.{ltb}
 use borrow.Author.Tests.{ltb-false}
 use lib.ListN.{length, drop, get_or, set, length-drop}
 use lib.Seq.{take-length, drop-length, drop-nil, drop-cons, drop-drop, paste, paste-suc}
-use Rattle.bytes.specs.Bytes.{slice, index_of}
+use Rattle.text.specs.Find.{index_of}
 use Rattle.wire.specs.Lent.{on_front}
 use Rattle.wire.proofs.Choice.{chosen}
 use Rattle.text.specs.Field.{space, behind_of}
 use Rattle.text.specs.Number.{none, with_digit, with_digits, number_of}
 use Rattle.text.specs.Hex.{digit_of, are_digits, byte_of, data_of}
-
--- a byte looked for in a whole text
-pub found : (b : ℕ) (text : List ℕ) → 0 + index_of b (slice 0 (length text) text) ≡ index_of b text
-unfolding slice
-found b text = zero-add _ ∙ ap (index_of b) (take-length text)
 
 -- nothing stands behind the end
 pub nothing_behind : (text : List ℕ) (n : ℕ) → length text ≤ n → drop n text ≡ []

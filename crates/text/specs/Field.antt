@@ -1,7 +1,7 @@
 -- The fields of a line: one space between two, none at the ends (docs/READINGS.md, 27). Of a line with more spaces one field is empty,
 -- and an empty field says no letter, no number and no bytes.
 use Rattle.std.specs.Prelude.{ℕ, ◌+◌, cond, List, eqb, length, take, drop, get_or}
-use Rattle.bytes.specs.Bytes.{index_of}
+use Rattle.text.specs.Find.{index_of}
 
 abbrev pub space : ℕ
 space = 0x20

@@ -1,3 +1,4 @@
+pub mod Find
 pub mod Field
 pub mod Number
 pub mod Hex

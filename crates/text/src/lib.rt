@@ -4,4 +4,3 @@
 // The model: definitions and statements in `specs/`, and the proofs about them; it has no type of its own. The functions are crate
 // `parse`.
 #![tactic(auto)]
-

@@ -4,7 +4,7 @@ use native.Mathlib.Omega.{arith}
 use lib.ListN.{length, drop, length-drop}
 use lib.Seq.{take_all}
 use Prim.Native.Nat.{ℕ, ◌+◌, ◌-◌}
-use Rattle.bytes.specs.Bytes.{index_of}
+use Rattle.text.specs.Find.{index_of}
 use Rattle.text.specs.Field.{space, behind_of}
 use Rattle.text.proofs.Scanning.{found, nothing_behind}
 use borrow.Author.Rules.{rules}
