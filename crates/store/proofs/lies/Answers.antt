@@ -10,7 +10,7 @@ returns-then-room-ne-ROOM c = simp (ne_eqb _ _ c.if-room-ne-ROOM.true)
 
 pub returns-then-has_place : goal.returns-then-has_place
 unfolding lies whole_room
-returns-then-has_place c = simp (eq-eqb _ _ c.if-room-ne-ROOM.false, sym c.has_place.ensures ∙ c.if-has_place.true) c.in_area_lem.ensures
+returns-then-has_place c = simp (eq-eqb _ _ c.if-room-ne-ROOM.false, sym c.has_place.ensures ∙ c.if-has_place.true) c.in_area.ensures
 
 pub returns : goal.returns
 unfolding lies whole_room

@@ -4,7 +4,7 @@ use borrow.Author.Rules.{rules}
 use Rattle.line.proofs.line.Line.ack_tick.Goals as goal
 
 pub returns-in-RunsOut : goal.returns-in-RunsOut
-returns-in-RunsOut c = simp (sym c.tick.ensures ∙ c.enum_told-1.given.1) c.retry.ensures
+returns-in-RunsOut c = simp (sym c.tick.ensures ∙ c.in-RunsOut.is) c.retry.ensures
 
 pub returns-in-Runs : goal.returns-in-Runs
-returns-in-Runs c = simp (sym c.tick.ensures ∙ c.timer-1.given.1) c.goes.ensures
+returns-in-Runs c = simp (sym c.tick.ensures ∙ c.in-Runs.is) c.goes.ensures

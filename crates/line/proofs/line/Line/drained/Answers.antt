@@ -3,4 +3,4 @@ use borrow.Author.Rules.{rules}
 use Rattle.line.proofs.line.Line.drained.Goals as goal
 
 pub returns-in-Draining : goal.returns-in-Draining
-returns-in-Draining c = simp c.phase-1.given.1
+returns-in-Draining c = simp c.in-Draining.is

@@ -3,22 +3,22 @@ use borrow.Author.Rules.{rules}
 use Rattle.line.proofs.line.Line.settle.Goals as goal
 
 pub returns-in-Idle : goal.returns-in-Idle
-returns-in-Idle c = simp c.enum_told-1.given.1 c.settle_idle.ensures
+returns-in-Idle c = simp c.in-Idle.is c.settle_idle.ensures
 
 pub returns-in-WaitEot : goal.returns-in-WaitEot
-returns-in-WaitEot c = simp c.enum_told-in-WaitEot-1.given.1 c.stays.ensures
+returns-in-WaitEot c = simp c.in-WaitEot.is c.stays.ensures
 
 pub returns-in-Draining : goal.returns-in-Draining
-returns-in-Draining c = simp c.enum_told-in-Draining-1.given.1 c.stays-in-Draining.ensures
+returns-in-Draining c = simp c.in-Draining.is c.stays-in-Draining.ensures
 
 pub returns-in-WaitAck : goal.returns-in-WaitAck
-returns-in-WaitAck c = simp c.enum_told-in-WaitAck-1.given.1 c.stays-in-WaitAck.ensures
+returns-in-WaitAck c = simp c.in-WaitAck.is c.stays-in-WaitAck.ensures
 
 pub returns-in-WaitLength : goal.returns-in-WaitLength
-returns-in-WaitLength c = simp c.enum_told-in-WaitLength-1.given.1 c.stays-in-WaitLength.ensures
+returns-in-WaitLength c = simp c.in-WaitLength.is c.stays-in-WaitLength.ensures
 
 pub returns-in-Body : goal.returns-in-Body
-returns-in-Body c = simp c.enum_told-in-Body-1.given.1 c.stays-in-Body.ensures
+returns-in-Body c = simp c.in-Body.is c.stays-in-Body.ensures
 
 pub returns-in-Silence : goal.returns-in-Silence
-returns-in-Silence c = simp c.enum_told-in-Silence-1.given.1 c.stays-in-Silence.ensures
+returns-in-Silence c = simp c.in-Silence.is c.stays-in-Silence.ensures
