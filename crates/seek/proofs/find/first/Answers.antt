@@ -11,17 +11,17 @@ loop-i-init c = (omega arith, refl)
 pub returns-then-marks-i : goal.returns-then-marks-i
 unfolding first_of
 returns-then-marks-i c =
-    let four : length c.args.t1 ≡ 4 = search rules in
-    hit c.args.t1 c.loop-i.i c.loop-i.invariant.1 (omega arith) c.if-marks-i.true
+    let four : length c.args.marks ≡ 4 = search rules in
+    hit c.args.marks c.loop-i.i c.loop-i.invariant.1 (omega arith) c.if-marks-i.true
 
 pub loop-i-preserved : goal.loop-i-preserved
 unfolding first_of
 loop-i-preserved c =
-    let four : length c.args.t1 ≡ 4 = search rules in
-    (omega arith, miss c.args.t1 c.loop-i.i c.loop-i.invariant.1 (omega arith) c.if-marks-i.false)
+    let four : length c.args.marks ≡ 4 = search rules in
+    (omega arith, miss c.args.marks c.loop-i.i c.loop-i.invariant.1 (omega arith) c.if-marks-i.false)
 
 pub returns : goal.returns
 unfolding first_of
 returns c =
-    let four : length c.args.t1 ≡ 4 = search rules in
-    none c.args.t1 c.loop-i.i c.loop-i.invariant.1 (omega arith)
+    let four : length c.args.marks ≡ 4 = search rules in
+    none c.args.marks c.loop-i.i c.loop-i.invariant.1 (omega arith)

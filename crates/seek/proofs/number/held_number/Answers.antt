@@ -9,4 +9,4 @@ returns-then-is_free c = simp (sym c.is_free.ensures ∙ c.if-is_free.true)
 
 pub returns : goal.returns
 unfolding held_number
-returns c = simp (sym c.is_free.ensures ∙ c.if-is_free.false) c.number_of_lem.ensures
+returns c = simp (sym c.is_free.ensures ∙ c.if-is_free.false) c.number_of.ensures
