@@ -1,2 +1,3 @@
--- `Determined`: what each public contract determines.
+-- `Determined`: what each public contract determines. `Finding`: a byte looked for.
 pub mod Determined
+pub mod Finding

@@ -1,9 +1,7 @@
 -- `number` meets its contract.
-use Prim.Native.Nat.{◌-◌, ◌≤◌}
-use mathlib.Core.Path.{◌≡◌, refl, sym, ◌∙◌}
+use mathlib.Core.Path.{refl, sym, ◌∙◌}
 use native.Mathlib.Omega.{arith}
-use lib.ListN.{length, drop, get_or}
-use Rattle.text.specs.Number.{with_digits}
+use lib.ListN.{get_or}
 use Rattle.text.proofs.Scanning.{digits_on, digits_end, some_digits, no_digits, digit_most}
 use borrow.Author.Rules.{rules}
 use Rattle.parse.proofs.decimal.number.Goals as goal
@@ -31,9 +29,9 @@ loop-i-preserved c =
     let text = c.args.text.now in
     let i = c.loop-i.i in
     let next = c.with_digit-value.ensures in
-    (omega arith, rw next (digit_most c.loop-i.value (get_or text i 0)), rw next (sym (digits_on text i c.loop-i.value c.loop_test.true)) ∙ c.loop-i.invariant.2)
+    (omega arith, rw next (digit_most c.loop-i.value (get_or text i 0)), rw next (sym (digits_on text i c.loop-i.value c.loop-i-test.true)) ∙ c.loop-i.invariant.2)
 
 pub returns : goal.returns
 returns c =
     let text = c.args.text.now in
-    sym (digits_end text c.loop-i.i c.loop-i.value c.loop_test.false) ∙ c.loop-i.invariant.2 ∙ some_digits text (omega (arith, c.if-text-eq0.false))
+    sym (digits_end text c.loop-i.i c.loop-i.value c.loop-i-test.false) ∙ c.loop-i.invariant.2 ∙ some_digits text (omega (arith, c.if-text-eq0.false))

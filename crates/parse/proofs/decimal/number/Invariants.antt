@@ -1,10 +1,7 @@
 use Prim.Native.Nat.{◌-◌, ◌≤◌}
-use mathlib.Core.Path.{◌≡◌, refl, sym, ◌∙◌}
-use native.Mathlib.Omega.{arith}
-use lib.ListN.{length, drop, get_or}
+use mathlib.Core.Path.{◌≡◌}
+use lib.ListN.{length, drop}
 use Rattle.text.specs.Number.{with_digits}
-use Rattle.text.proofs.Scanning.{digits_on, digits_end, some_digits, no_digits, digit_most}
-use borrow.Author.Rules.{rules}
 use Rattle.parse.proofs.decimal.number.Given as goal
 
 abbrev pub invariant-loop-i : goal.invariant-loop-i

@@ -1,7 +1,6 @@
 -- `with_digit` meets its contract.
 use borrow.Author.Tests.{lt-ltb, le-ltb}
 use Rattle.text.specs.Number.{with_digit}
-use borrow.Author.Rules.{rules}
 use Rattle.parse.proofs.decimal.with_digit.Goals as goal
 
 pub returns-then-byte-lt48 : goal.returns-then-byte-lt48

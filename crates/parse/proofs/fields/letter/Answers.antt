@@ -1,7 +1,6 @@
 -- `letter` meets its contract.
 use borrow.Author.Tests.{eq-eqb, ne_eqb}
 use Rattle.text.specs.Field.{letter_of}
-use borrow.Author.Rules.{rules}
 use Rattle.parse.proofs.fields.letter.Goals as goal
 
 pub returns-then-text-eq1 : goal.returns-then-text-eq1

@@ -1,7 +1,6 @@
 -- `digit` meets its contract.
 use borrow.Author.Tests.{lt-ltb, le-ltb, le-leb, lt-leb}
 use Rattle.text.specs.Hex.{digit_of}
-use borrow.Author.Rules.{rules}
 use Rattle.parse.proofs.hex.digit.Goals as goal
 
 pub returns-then-byte-lt48 : goal.returns-then-byte-lt48

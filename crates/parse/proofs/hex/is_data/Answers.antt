@@ -1,7 +1,6 @@
 -- `is_data` meets its contract.
 use borrow.Author.Tests.{eq-eqb, ne_eqb}
 use Rattle.text.specs.Hex.{is_data}
-use borrow.Author.Rules.{rules}
 use Rattle.parse.proofs.hex.is_data.Goals as goal
 
 pub returns-then-text-eq0 : goal.returns-then-text-eq0

@@ -1,6 +1,5 @@
 -- `pair` meets its contract.
 use Rattle.text.specs.Hex.{byte_of}
-use borrow.Author.Rules.{rules}
 use Rattle.parse.proofs.hex.pair.Goals as goal
 
 pub returns : goal.returns

@@ -1,14 +1,12 @@
 -- `put_data` meets its contract.
-use Prim.Native.Nat.{◌-◌, ◌≤◌}
 use mathlib.Core.Path.{◌≡◌, refl, sym, ◌∙◌}
 use native.Mathlib.Omega.{arith}
 use lib.ListN.{length, length-set}
-use lib.Seq.{paste, paste-zero}
+use lib.Seq.{paste-zero}
 use Rattle.wire.specs.Lent.{filled}
 use Rattle.wire.proofs.Lent.{no_room, in_room}
 use Rattle.text.specs.Hex.{data_of}
 use Rattle.text.proofs.Scanning.{data_length, data_at, paste_next, pasted}
-use borrow.Author.Rules.{rules}
 use Rattle.parse.proofs.hex.put_data.Goals as goal
 
 pub returns-then-bytes-count : goal.returns-then-bytes-count
@@ -39,6 +37,6 @@ pub returns : goal.returns
 returns c =
     let text = c.args.text.now in
     let size = data_length text in
-    let all : c.loop-i.i ≡ length (data_of text) = omega (arith, c.loop_test.false, c.loop-i.invariant.0) in
+    let all : c.loop-i.i ≡ length (data_of text) = omega (arith, c.loop-i-test.false, c.loop-i.invariant.0) in
     (λ k. filled (sym size k) ((c.loop-i.invariant.1 ∙ pasted c.args.bytes.now (data_of text) c.loop-i.i all) k))
     ∙ in_room (data_of text) c.args.bytes.now (omega (arith, c.if-bytes-count.false))
