@@ -331,15 +331,21 @@ rest_length u room out k = omega (arith, length-drop (called u room out k).answe
 ticks_lent : (u : Link) (room out : List ℕ) (n : ℕ) (ks : List Call) → Makes (waits n) ks → 257 + still u.settings.limits.rty u.line u.exchange ≤ length out → EachLent u room out ks
 unfolding EachLent
 ticks_lent u room out _ _ no_tick h = tt
-ticks_lent u room out _ _ (a_tick n ks m) h =
-    (omega arith, ticks_lent _ _ _ n ks m (omega (arith, rest_length u room out tick, call_less u room out)))
+ticks_lent u room out _ _ (a_tick n ks m) h = (
+  omega arith,
+  ticks_lent (called u room out tick).answer.link (called u room out tick).room (drop (called u room out tick).answer.count out) n ks m
+      (omega (arith, rest_length u room out tick, call_less u room out)),
+)
 
 bytes_lent : (u : Link) (room out bs : List ℕ) (ks : List Call) → Makes (hears bs) ks → 257 + bytes_at u.line.phase (length bs) ≤ length out → EachLent u room out ks
 unfolding EachLent
 bytes_lent u room out _ _ no_byte h = tt
 bytes_lent u room out _ _ (a_byte b fits bs ks m) h =
-    let k = byte b fits in
-    (omega arith, bytes_lent _ _ _ bs ks m (omega (arith, rest_length u room out k, byte_less u room out b fits (length bs) (writes_only u room out k).output.most)))
+    let k = byte b fits in (
+      omega arith,
+      bytes_lent (called u room out (byte b fits)).answer.link (called u room out (byte b fits)).room (drop (called u room out (byte b fits)).answer.count out) bs ks m
+          (omega (arith, rest_length u room out k, byte_less u room out b fits (length bs) (writes_only u room out k).output.most)),
+    )
 
 one_lent : (u : Link) (room out : List ℕ) (k : Call) → length out ≡ 4096 → EachLent u room out (k ∷ [])
 unfolding EachLent

@@ -128,6 +128,7 @@ on_stays (line ∷ lines) t e = on_stays lines (talk t line) ((follows t line).s
 
 among_on : (lines : List (List ℕ)) (t : Talk) → StartAmong lines → On (talked t lines).now
 unfolding talked
+among_on [] t h = elim h [ ]
 among_on (line ∷ lines) t (this l ls w) = on_stays lines (talk t line) (begins t.now.shown.bench line t.now.room t.now.out w)
 among_on (line ∷ lines) t (later l ls w) = among_on lines (talk t line) w
 

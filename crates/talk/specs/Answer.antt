@@ -8,7 +8,6 @@ use Rattle.link.specs.State.{start_of}
 use Rattle.link.specs.Run.{left}
 use Rattle.link.specs.Call.{open_call, reply_call, drained_call, release_own_call, release_incoming_call}
 use Rattle.link.specs.Reading.{own_of, dropped_of}
-use Rattle.link.specs.declared.Answer.{Answer}
 use Rattle.link.specs.declared.Link.{Link}
 use Rattle.link.specs.declared.Setup.{Setup}
 use Rattle.script.specs.Command.{Told, line_read}
