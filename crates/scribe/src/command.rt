@@ -23,6 +23,7 @@ fn byte(n: u32) -> u8
 }
 
 // `H` or `E`, behind it eight numbers.
+#[tactic(auto, unfolding(script::specs::Command::start_by))]
 fn start(host: bool, text: &[u8]) -> Command
     ensures { result ≡ start_by host text.now }
 {
@@ -79,6 +80,7 @@ fn start(host: bool, text: &[u8]) -> Command
 }
 
 // `O`, behind it four numbers and the data.
+#[tactic(auto, unfolding(script::specs::Command::open_by))]
 fn open(text: &[u8], bytes: &mut [u8; 512]) -> Command
     requires { length text.now ≤ 1024 }
     ensures { told result bytes.new ≡ open_by text.now bytes.old }
@@ -119,6 +121,7 @@ fn open(text: &[u8], bytes: &mut [u8; 512]) -> Command
 }
 
 // `R`, behind it two numbers and the data.
+#[tactic(auto, unfolding(script::specs::Command::reply_by))]
 fn reply(text: &[u8], bytes: &mut [u8; 512]) -> Command
     requires { length text.now ≤ 1024 }
     ensures { told result bytes.new ≡ reply_by text.now bytes.old }
@@ -144,6 +147,7 @@ fn reply(text: &[u8], bytes: &mut [u8; 512]) -> Command
 }
 
 // `L`, behind it `O` or `I` and a number.
+#[tactic(auto, unfolding(script::specs::Command::release_by))]
 fn release(text: &[u8]) -> Command
     ensures { result ≡ release_by text.now }
 {
@@ -173,6 +177,7 @@ fn bytes_in(text: &[u8], bytes: &mut [u8; 512]) -> Command
 }
 
 // `T`, behind it a number.
+#[tactic(auto, unfolding(script::specs::Command::ticks_by))]
 fn ticks(text: &[u8]) -> Command
     ensures { result ≡ ticks_by text.now }
 {
@@ -184,6 +189,7 @@ fn ticks(text: &[u8]) -> Command
 }
 
 // `V`, behind it a number.
+#[tactic(auto, unfolding(script::specs::Command::verdict_by))]
 fn verdict(text: &[u8]) -> Command
     ensures { result ≡ verdict_by text.now }
 {
