@@ -1,48 +1,28 @@
 -- `call::byte` meets its contract.
-use mathlib.Core.Path.{◌≡◌, sym, ◌∙◌}
-use lib.ListN.{length}
-use Rattle.link.specs.State.{with_heard, gate_of}
+use Rattle.std.proofs.Common.{sym, ◌∙◌}
+use Rattle.link.specs.State.{with_heard}
 use Rattle.unit.proofs.Gates.{past}
 use Rattle.unit.proofs.Courses.{by_parts, opens, shuts, byte_on, short_byte}
-use borrow.Author.Rules.{rules}
 use Rattle.unit.proofs.call.byte.Goals as goal
 
-abbrev admitted : tie.After-byte → tie.After-admits
-admitted c = (let_in c).before.before
-
--- what the gate said there
-by_gate : (c : tie.After-admits) → c.admits.result ≡ gate_of (start c).args.t1 (length (start c).args.room.now) (length (start c).args.out.now)
-by_gate c = c.admits.ensures ∙ by_parts (start c).args.t1 _ _
-
 pub settles-requires : goal.settles-requires
-settles-requires c =
-    let b = c in
-    let s = start (admitted b) in
-    (past s.args.t1 _ _ (by_gate (admitted b)) (let_in b).enum_told.given.1).output
+settles-requires c = (past c.args.link _ _ (c.admits.ensures ∙ by_parts c.args.link _ _) c.in-Open.is).output
 
+-- the short way
 pub returns-then-is_quiet : goal.returns-then-is_quiet
 returns-then-is_quiet c =
-    let b = c in
-    let s = start (admitted b) in
-    opens s.args.t1 s.args.room.now s.args.out.now _ (by_gate (admitted b)) (let_in b).enum_told.given.1
-    (byte_on s.args.t1 s.args.b s.args.room.now s.args.out.now b.byte.ensures
-    (short_byte (with_heard s.args.t1 b.byte.result.line _) s.args.room.now s.args.out.now b.byte.result.out c.settles.ensures c.no_flags.ensures
-    b.byte.result.told b.byte.result.remark (sym c.is_quiet.ensures ∙ c.if-is_quiet.true)))
+    opens c.args.link c.args.room.now c.args.out.now _ (c.admits.ensures ∙ by_parts c.args.link _ _) c.in-Open.is
+    (byte_on c.args.link c.args.b c.args.room.now c.args.out.now c.byte-step.ensures
+    (short_byte (with_heard c.args.link c.byte-step.result.line _) c.args.room.now c.args.out.now c.byte-step.result.out c.settles.ensures c.no_flags.ensures
+    c.byte-step.result.told c.byte-step.result.remark (sym c.is_quiet.ensures ∙ c.if-is_quiet.true)))
 
 pub unless_block-requires : goal.unless_block-requires
-unless_block-requires c =
-    let b = c in
-    let s = start (admitted b) in
-    let p = past s.args.t1 _ _ (by_gate (admitted b)) (let_in b).enum_told.given.1 in (p.output, p.block)
+unless_block-requires c = let p = past c.args.link _ _ (c.admits.ensures ∙ by_parts c.args.link _ _) c.in-Open.is in (p.output, p.block)
 
 pub returns-else-is_quiet : goal.returns-else-is_quiet
 returns-else-is_quiet c =
-    let b = c in
-    let s = start (admitted b) in
-    opens s.args.t1 s.args.room.now s.args.out.now _ (by_gate (admitted b)) (let_in b).enum_told.given.1
-    (byte_on s.args.t1 s.args.b s.args.room.now s.args.out.now b.byte.ensures c.unless_block.ensures)
+    opens c.args.link c.args.room.now c.args.out.now _ (c.admits.ensures ∙ by_parts c.args.link _ _) c.in-Open.is
+    (byte_on c.args.link c.args.b c.args.room.now c.args.out.now c.byte-step.ensures c.unless_block.ensures)
 
 pub returns-in-Shut : goal.returns-in-Shut
-returns-in-Shut c =
-    let s = c in
-    shuts s.args.t1 s.args.room.now s.args.out.now _ _ (by_gate c) c.in-Shut.is c.refused.ensures
+returns-in-Shut c = shuts c.args.link c.args.room.now c.args.out.now _ _ (c.admits.ensures ∙ by_parts c.args.link _ _) c.in-Shut.is c.refused.ensures

@@ -1,12 +1,8 @@
 -- `step::block_out` meets its contract.
-use Rattle.unit.proofs.Courses.{notes_so, block_left}
-use borrow.Author.Rules.{rules}
+use Rattle.unit.proofs.Courses.{block_left, notes_so}
 use Rattle.unit.proofs.step.block_out.Goals as goal
 
 pub returns : goal.returns
 returns c =
-    let t = c in
-    let p = put t in
-    let s = start p in
-    block_left s.args.link s.args.room.now s.args.out.now p.before.before.outgoing.ensures p.put_message.ensures
-    (notes_so s.args.told s.args.remark s.args.link s.args.room.now t.before.before.note_of.ensures t.tells.ensures) c.answers.ensures
+    block_left c.args.link c.args.room.now c.args.out.now c.outgoing.ensures c.put_message-count.ensures
+    (notes_so c.args.told c.args.remark c.args.link c.args.room.now c.note_of.ensures c.tells-heard.ensures) c.answers.ensures

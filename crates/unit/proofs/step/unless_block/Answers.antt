@@ -1,31 +1,31 @@
 -- `step::unless_block` meets its contract.
-use mathlib.Core.Bool.{false}
-use Rattle.link.specs.Run.{Left, Telling, block_out, hearing, onward}
+use Rattle.std.proofs.Common.{ℕ, false, List}
+use Rattle.line.specs.declared.step.Out.{Out}
+use Rattle.line.specs.declared.step.Told.{Told}
+use Rattle.line.specs.declared.step.Remark.{Remark}
+use Rattle.link.specs.declared.Link.{Link}
+use Rattle.link.specs.Run.{Left, Telling, hearing, block_out, onward}
 use Rattle.unit.proofs.Courses.{on_nothing, on_code, on_block}
-use borrow.Author.Rules.{rules}
 use Rattle.unit.proofs.step.unless_block.Goals as goal
 
--- what the transactions make of it, and the two ways that the call can go
-abbrev heard : tie.Start → Telling
-heard s = hearing s.args.told s.args.remark s.args.link s.args.room.now
+-- the two ways that the call can go
+abbrev block : Told → Remark → Link → List ℕ → List ℕ → Left
+block told remark link room out = block_out link (hearing told remark link room) room out
 
-abbrev block : tie.Start → Left
-block s = block_out s.args.link (heard s) s.args.room.now s.args.out.now
-
-abbrev goes : tie.Start → Left
-goes s = onward s.args.put false s.args.told s.args.link (heard s) s.args.out.now
+abbrev goes : Out → Told → Remark → Link → List ℕ → List ℕ → Left
+goes put told remark link room out = onward put false told link (hearing told remark link room) out
 
 pub returns-in-Nothing : goal.returns-in-Nothing
 returns-in-Nothing c =
-    let s = c in
-    on_nothing s.args.put (block s) (goes s) c.in-Nothing.is c.onward.ensures
+    on_nothing c.args.put (block c.args.told c.args.remark c.args.link c.args.room.now c.args.out.now)
+    (goes c.args.put c.args.told c.args.remark c.args.link c.args.room.now c.args.out.now) c.in-Nothing.is c.onward.ensures
 
 pub returns-in-Code : goal.returns-in-Code
 returns-in-Code c =
-    let s = c in
-    on_code s.args.put (block s) (goes s) _ c.in-Code.is c.onward-in-Code.ensures
+    on_code c.args.put (block c.args.told c.args.remark c.args.link c.args.room.now c.args.out.now)
+    (goes c.args.put c.args.told c.args.remark c.args.link c.args.room.now c.args.out.now) _ c.in-Code.is c.onward-in-Code.ensures
 
 pub returns-in-Block : goal.returns-in-Block
 returns-in-Block c =
-    let s = c in
-    on_block s.args.put (block s) (goes s) c.in-Block.is c.block_out.ensures
+    on_block c.args.put (block c.args.told c.args.remark c.args.link c.args.room.now c.args.out.now)
+    (goes c.args.put c.args.told c.args.remark c.args.link c.args.room.now c.args.out.now) c.in-Block.is c.block_out.ensures
