@@ -11,7 +11,7 @@ use Rattle.settings.specs.declared.timer.Timer.TheVariants.{RunsOut, Runs}
 use Rattle.place.specs.Arriving.{waited_by, arriving_tick}
 use Rattle.place.specs.Fate.{fate_of}
 use Rattle.place.specs.Own.{primary_of, ended, first_out, acknowledged, awaited_by, await_tick, replying_by, reply_tick, own_kept, own_takes, replied_by, replied, own_offered}
-use Rattle.place.specs.OwnHistory.{Event, claim, put_out, sent, failed, tick, release, block, step, Track, track, at_start}
+use Rattle.place.specs.OwnHistory.{Event, claim, put_out, sent, failed, tick, release, block, step, Track, next, track, at_start}
 use Rattle.place.specs.declared.Arriving.{Arriving}
 use Rattle.place.specs.declared.Fate.{Fate}
 use Rattle.place.specs.declared.Fate.TheVariants.{Empty, TooLong, Last, More}
@@ -121,7 +121,7 @@ even_step c h (Done v r) release w = tt
 events : (c : Terms) (t : Track) (es : List (Event c)) → Even t.own → Even (track t es).own
 unfolding track
 events c t [] w = w
-events c t (e ∷ es) w = events c _ es (even_step c t.own.header t.own.stage e w)
+events c t (e ∷ es) w = events c (next t e) es (even_step c t.own.header t.own.stage e w)
 
 pub evens : (c : Terms) (t : exchange.Track) → Reached c t → (p : ℕ) → p < 4 → Even (own_place t.exchange p)
 evens c t w p k =

@@ -104,6 +104,9 @@ no_rule (fate.More m) n a b e = omega arith
 
 -- nor has one that is thrown out once its header is saved a note of rule 1 or 2
 late : (n : Note) → Thrown n → 24 ≤ note_number n
+late Kept t = elim t [ ]
+late Misrouted t = elim t [ ]
+late Duplicate t = elim t [ ]
 late Stray stray = omega arith
 late NoPlace no_place = omega arith
 late TooLong too_long_lem = omega arith

@@ -12,7 +12,7 @@ use Rattle.place.specs.Message.{Routed}
 use Rattle.place.specs.Fate.{fate_of}
 use Rattle.place.specs.Arriving.{waited_by, arriving_tick}
 use Rattle.place.specs.Incoming.{begun_by, begins, open_by, open_tick, incoming_takes, incoming_length, kept_by, goes_on, incoming_offered}
-use Rattle.place.specs.IncomingHistory.{Event, begin, block, tick, answer, sent, failed, release, step, Track, track, at_start}
+use Rattle.place.specs.IncomingHistory.{Event, begin, block, tick, answer, sent, failed, release, step, Track, next, track, at_start}
 use Rattle.place.specs.declared.Arriving.{Arriving}
 use Rattle.place.specs.declared.Fate.{Fate}
 use Rattle.place.specs.declared.Fate.TheVariants.{Empty, TooLong, Last, More}
@@ -111,7 +111,7 @@ module _ (c : Terms) where
   events : (t : Track) (es : List (Event c)) → CameHere c t.incoming → CameHere c (track t es).incoming
   unfolding track
   events t [] w = w
-  events t (e ∷ es) w = events _ es (came_step t.incoming.header t.incoming.stage e w)
+  events t (e ∷ es) w = events (next t e) es (came_step t.incoming.header t.incoming.stage e w)
 
   pub came : (t : exchange.Track) → Reached c t → (p : ℕ) → p < 4 → CameHere c (incoming_place t.exchange p)
   came t w p k =

@@ -83,6 +83,7 @@ impl Line {
     }
 
     // The line with a block held.
+    #[tactic(auto, unfolding(crate::specs::Line::holding))]
     pub(crate) fn holding(self) -> Line
         ensures { result ≡ Rattle.line.specs.Line.holding self }
     {

@@ -137,7 +137,7 @@ stays c h (Replied n f) release x y = absurd (false≢true y)
 of_stage : (c : Terms) (h : Header) (p : IncomingStage) → StaysComplete c (record { header = h; stage = p })
 of_stage c h Free =
     record {
-      kept = λ x e y. stays c h _ e x y;
+      kept = λ x e y. stays c h Free e x y;
       taken = λ x. cc;
       ends_sent = λ x. cc;
       ends_failed = λ x. cc;
@@ -148,7 +148,7 @@ of_stage c h Free =
     }
 of_stage c h (Open a) =
     record {
-      kept = λ x e y. stays c h _ e x y;
+      kept = λ x e y. stays c h (Open a) e x y;
       taken = λ x. cc;
       ends_sent = λ x. cc;
       ends_failed = λ x. cc;
@@ -159,7 +159,7 @@ of_stage c h (Open a) =
     }
 of_stage c h (Complete n) =
     record {
-      kept = λ x e y. stays c h _ e x y;
+      kept = λ x e y. stays c h (Complete n) e x y;
       taken = λ x. refl;
       ends_sent = λ x. cc;
       ends_failed = λ x. cc;
@@ -170,7 +170,7 @@ of_stage c h (Complete n) =
     }
 of_stage c h (Replying n) =
     record {
-      kept = λ x e y. stays c h _ e x y;
+      kept = λ x e y. stays c h (Replying n) e x y;
       taken = λ x. cc;
       ends_sent = λ x. refl;
       ends_failed = λ x. refl;
@@ -181,7 +181,7 @@ of_stage c h (Replying n) =
     }
 of_stage c h (Replied n e) =
     record {
-      kept = λ x e y. stays c h _ e x y;
+      kept = λ x k y. stays c h (Replied n e) k x y;
       taken = λ x. cc;
       ends_sent = λ x. cc;
       ends_failed = λ x. cc;

@@ -21,8 +21,12 @@ slots_from {A} l d (suc k) i e =
 pub record Alike {A : Type 0} (l : List A) (n : ℕ) : Type 0 where
   pub last : (d e : A) (k i : ℕ) → n ≡ i + k → slots l d k i ≡ slots l e k i
 
--- so it is with an array of structs, from what owning it tells of its length: listed after `needs`
-pub owned : {A B : Type 0} (f : A → B) (l : List A) (n : ℕ) → length (map f l) ≡ n → Alike l n
-owned f l n p = record {
-  last = λ d e k i q. let r : length l ≡ i + k = sym (length-map l f) ∙ p ∙ q in slots_from l d k i r ∙ sym (slots_from l e k i r);
+-- so it is with a list of that many
+pub sized : {A : Type 0} (l : List A) (n : ℕ) → length l ≡ n → Alike l n
+sized l n p = record {
+  last = λ d e k i q. let r : length l ≡ i + k = p ∙ q in slots_from l d k i r ∙ sym (slots_from l e k i r);
 }
+
+-- and with an array of structs, from what owning it tells of its length
+pub owned : {A B : Type 0} (f : A → B) (l : List A) (n : ℕ) → length (map f l) ≡ n → Alike l n
+owned f l n p = sized l n (sym (length-map l f) ∙ p)

@@ -121,6 +121,7 @@ pub fn without_oldest(reports: Reports) -> Reports
 }
 
 // The report under way shows this header.
+#[tactic(auto, unfolding(crate::specs::Reports::showing))]
 pub fn showing(reports: Reports, header: [u8; 10]) -> Reports
     ensures { result ≡ Rattle.reports.specs.Reports.showing reports header }
 {
@@ -134,6 +135,7 @@ pub fn showing(reports: Reports, header: [u8; 10]) -> Reports
 }
 
 // Whether the count of those that wait is in its range (docs/STATE.md).
+#[tactic(auto, unfolding(crate::specs::Reports::reports_in_range))]
 pub fn in_range(reports: Reports) -> bool
     ensures { result ≡ reports_in_range reports }
 {

@@ -8,8 +8,8 @@ use Rattle.table.specs.Find.{first_of}
 use Rattle.table.specs.declared.Found.{Found}
 
 -- the place; one outside the table is as a free one
-abbrev pub field_own : List Own → ℕ → Own
-field_own os p = get_or os p fresh_own
+abbrev pub own_at : List Own → ℕ → Own
+own_at os p = get_or os p fresh_own
 
 -- the table with place p put anew; outside it nothing is put
 abbrev pub own_put : List Own → ℕ → Own → List Own

@@ -6,7 +6,6 @@
 // `seek`.
 #![tactic(auto)]
 
-
 // Which place of four is meant.
 #[derive(Clone, Copy)]
 pub enum Found {

@@ -33,10 +33,12 @@ use Rattle.link.proofs.Accepted.{by_outcome, accepted_calls}
 
 -- what holds of each holds of one of them
 pub each_among : (K : exchange.Call → Type 0) (ks : List exchange.Call) → Each K ks → (k : exchange.Call) → Among k ks → K k
+each_among K [] is k a = elim a [ ]
 each_among K (_ ∷ ks) (one_more i is) k here = i
 each_among K (_ ∷ ks) (one_more i is) k (later a) = each_among K ks is k a
 
 pub front_among : (k : exchange.Call) (ks js : List exchange.Call) → Among k ks → Among k (ks ++ js)
+front_among k [] js a = elim a [ ]
 front_among k (_ ∷ ks) js here = here
 front_among k (_ ∷ ks) js (later a) = later (front_among k ks js a)
 

@@ -123,7 +123,7 @@ went_up_exactly t w m h d = (
   λ u.
       let rs = (step_in t.link m.call).received in
       let z = came t w m.call u.size u.told.told in
-      let body : take u.size rs ≡ h ++ d = body_read u.size rs z.3.not_is_short z.3.counted ∙ (λ i. u.header i ++ u.rest i) in
+      let body : take u.size rs ≡ h ++ d = body_read u.size rs z.3.not_short z.3.counted ∙ (λ i. u.header i ++ u.rest i) in
       let ten : length h ≡ 10 = sym (ap length u.header) in
       let size : u.size ≡ 10 + length d = omega (arith, z.3.counted, ap length body, length-append h d) in (
         ten,
@@ -142,7 +142,7 @@ went_up_exactly t w m h d = (
       let z = came t w m.call n up in
       let same = one_byte m.call z.1 a.1.last z.2 a.1.came in
       let body : take n rs ≡ h ++ d = one_body n (take n rs) (h ++ d) (t.seen.bytes ++ (a.1.last ∷ [])) (subst (λ x. IsBlock n (take n rs) (t.seen.bytes ++ (x ∷ []))) same z.3) a.1.whole in
-      let parts = fronts (first_ten rs) h (part 10 n rs) d refl a.0 (sym (body_read n rs z.3.not_is_short z.3.counted) ∙ body) in
+      let parts = fronts (first_ten rs) h (part 10 n rs) d refl a.0 (sym (body_read n rs z.3.not_short z.3.counted) ∙ body) in
       record { size = n; told = record { accepted = a.1.accepted; told = up }; header = parts.0; rest = parts.1 },
 )
 

@@ -146,7 +146,7 @@ with_enq c line.settle bs sending after is e = absurd is
 with_enq c line.withdraw bs sending after is e = absurd is
 
 pub held_follows : HeldFollows
-held_follows t w a m z e = with_enq _ (kind m.call) _ _ _ (receive_ends_by t w a m z) e
+held_follows t w a m z e = with_enq a.reached.settings.limits (kind m.call) _ _ _ (receive_ends_by t w a m z) e
 
 -- a send is over alike
 over_alike : (v w : Watch) (other : Bool) → v ≡ w → (on_way v.ours ≡ false) ⊎ (other ≡ true) → (on_way w.ours ≡ false) ⊎ (other ≡ true)

@@ -49,7 +49,7 @@ use Rattle.exchange.proofs.Leaving.{judge_leaves}
 use Rattle.exchange.proofs.Accepting.{refused_number, accepted_fills, request_spares}
 use Rattle.exchange.proofs.Cases.{Thrown, stray, no_place, too_long_lem, empty, Takes, by_judge}
 use Rattle.exchange.specs.declared.Note.{Note}
-use Rattle.exchange.specs.declared.Note.TheVariants.{Stray, NoPlace, TooLong, Empty}
+use Rattle.exchange.specs.declared.Note.TheVariants.{Kept, Misrouted, Duplicate, Stray, NoPlace, TooLong, Empty}
 use Rattle.exchange.specs.declared.Exchange.{Exchange}
 use Rattle.exchange.specs.declared.Asked.TheVariants as asked
 use Rattle.link.specs.Answer.{outcome_number, note_number, note_by}
@@ -106,6 +106,9 @@ kept_by (fate.Last n) room m have d e = refl
 kept_by (fate.More n) room m have d e = refl
 
 not_thrown : (n : Note) → Thrown n → block_note n ≢ 21
+not_thrown Kept t e = elim t [ ]
+not_thrown Misrouted t e = elim t [ ]
+not_thrown Duplicate t e = elim t [ ]
 not_thrown Stray stray e = omega arith
 not_thrown NoPlace no_place e = omega arith
 not_thrown TooLong too_long_lem e = omega arith

@@ -1,0 +1,6 @@
+-- `line::Line::drained` meets its contract: only while draining does it change the line.
+use borrow.Author.Rules.{rules}
+use Rattle.line.proofs.line.Line.drained.Goals as goal
+
+pub returns-in-Draining : goal.returns-in-Draining
+returns-in-Draining c = simp c.in-Draining.is

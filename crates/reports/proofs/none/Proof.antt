@@ -1,7 +1,0 @@
--- `none` meets its contract. Assumes nothing.
-use borrow.Author.Rules.{rules}
-use Rattle.reports.proofs.none.Statement.{statement}
-use Rattle.reports.proofs.none.Tie as tie
-
-pub none_spec : {M : Type 1} → statement M
-none_spec = tie.close (tie.spec (λ c κs. search rules) (λ c. rw c.no_report.ensures))
