@@ -8,7 +8,7 @@ use Rattle.codec.proofs.put_block.Goals as goal
 -- the four writes give the block
 pub returns : goal.returns
 returns c =
-    let h = c.args.t1 in
+    let h = c.args.header in
     let d = c.args.«data».now in
     let ten : length h ≡ 10 = search rules in
     let sum : c.wrapping_add_u16-sum.result ≡ checksum_of (h ++ d) =

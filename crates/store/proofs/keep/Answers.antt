@@ -28,17 +28,9 @@ pub slice_bounds-copy_from_slice-end : goal.slice_bounds-copy_from_slice-end
 unfolding kept_in
 slice_bounds-copy_from_slice-end c = omega (arith, tested_end _ _ _ _ _ c.lies.ensures c.if1.true c.start.ensures)
 
--- the bytes lie in the room and were copied there
 pub returns-then-lies : goal.returns-then-lies
-unfolding kept_in filled
-returns-then-lies c =
-    let room = c.args.room.now in
-    let bs = c.args.«data».now in
-    let passed = c.if-lies.true in
-    let fits = (tested_end _ _ _ _ _ c.lies.ensures passed c.start.ensures).0 in
-    simp (sym c.lies.ensures ∙ passed)
-    (copied room (c.start.result + c.args.offset) bs _ fits c.copy.ensures.1
-    ∙ ap (λ (s : ℕ). splice room (s + c.args.offset) bs) c.start.ensures)
+unfolding kept_in
+returns-then-lies c = search rules
 
 pub shape_of-room-else-lies : goal.shape_of-room-else-lies
 unfolding kept_in

@@ -1,0 +1,6 @@
+-- `arriving::from` meets its contract.
+use borrow.Author.Rules.{rules}
+use Rattle.life.proofs.arriving.from.Goals as goal
+
+pub returns : goal.returns
+returns c = rw c.kind_of.ensures
