@@ -9,29 +9,31 @@ use Rattle.room.proofs.Areas.{tested, tested_end}
 use Rattle.store.proofs.keep.Goals as goal
 
 pub start-requires : goal.start-requires
-unfolding kept_in
 start-requires c = (tested _ _ _ _ c.lies.ensures c.if-lies.true).place
 
 pub overflow_add-at : goal.overflow_add-at
-unfolding kept_in
 overflow_add-at c = omega (arith, tested_end _ _ _ _ _ c.lies.ensures c.if-lies.true c.start.ensures)
 
 pub overflow_add-at-then-lies : goal.overflow_add-at-then-lies
-unfolding kept_in
 overflow_add-at-then-lies c = omega (arith, tested_end _ _ _ _ _ c.lies.ensures c.if-lies.true c.start.ensures)
 
 pub slice_bounds-copy_from_slice-count : goal.slice_bounds-copy_from_slice-count
-unfolding kept_in
 slice_bounds-copy_from_slice-count c = omega (arith, tested_end _ _ _ _ _ c.lies.ensures c.if-lies.true c.start.ensures)
 
 pub slice_bounds-copy_from_slice-end : goal.slice_bounds-copy_from_slice-end
-unfolding kept_in
-slice_bounds-copy_from_slice-end c = omega (arith, tested_end _ _ _ _ _ c.lies.ensures c.if1.true c.start.ensures)
+slice_bounds-copy_from_slice-end c = omega (arith, tested_end _ _ _ _ _ c.lies.ensures c.if-lies.true c.start.ensures)
 
+-- the bytes lie in the room and were copied there
 pub returns-then-lies : goal.returns-then-lies
-unfolding kept_in
-returns-then-lies c = search rules
+unfolding kept_in filled
+returns-then-lies c =
+    let room = c.args.room.now in
+    let bs = c.args.«data».now in
+    let fits = (tested_end _ _ _ _ _ c.lies.ensures c.if-lies.true c.start.ensures).0 in
+    simp (sym c.lies.ensures ∙ c.if-lies.true)
+    (copied room (c.start.result + c.args.offset) bs _ fits c.copy_from_slice.ensures.after
+    ∙ ap (λ (s : ℕ). splice room (s + c.args.offset) bs) c.start.ensures)
 
-pub shape_of-room-else-lies : goal.shape_of-room-else-lies
+pub returns-else-lies : goal.returns-else-lies
 unfolding kept_in
-shape_of-room-else-lies c = simp (sym c.lies.ensures ∙ c.if-lies.false)
+returns-else-lies c = simp (sym c.lies.ensures ∙ c.if-lies.false)

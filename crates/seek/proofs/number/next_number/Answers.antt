@@ -1,107 +1,77 @@
 -- `number::next_number` meets its contract: the search goes on from a candidate that is passed over, and the walk over the
-use Rattle.std.proofs.Common.{◌≡◌, ℕ, ◌-◌, ◌<◌, ◌≤◌, true, List, ◌∷◌, map, length, get_or, drop, sym, refl, ◌∙◌, arith, rules, eq-eqb}
+-- places finds whether one of them has it.
+use Rattle.std.proofs.Common.{◌≡◌, ℕ, ◌<◌, true, List, ◌∷◌, map, length, get_or, sym, refl, ap, ◌∙◌, arith, rules, eq-eqb}
 use lib.ListN.{length-map, get_or-map}
+use Rattle.place.specs.declared.Own.{Own}
 use Rattle.table.proofs.Numbers.{wait, found, Goes, goes_on_lem, hit, miss, left}
-use Rattle.table.proofs.Fours.{unmapped}
-use Rattle.table.specs.Number.{held_number, among, next_number}
+use Rattle.table.specs.Number.{following, held_number, among, next_number}
 use Rattle.seek.proofs.number.next_number.Goals as goal
 
--- places finds whether one of them has it. Assumes nothing.
+module _ (last latest : ℕ) (own : List Own) (four : length own ≡ 4) where
+  -- the numbers of the places, and with them all that is passed over
+  abbrev nums : List ℕ
+  nums = map held_number own
 
--- ---- the places in the code that the lemmas speak of
+  abbrev passed : List ℕ
+  passed = latest ∷ nums
 
--- where it starts
-abbrev Start : Type 0
-Start = tie.Start invariant-loop decreases-loop invariant-search decreases-search
+  four_nums : length nums ≡ 4
+  four_nums = length-map own held_number ∙ four
 
--- where a candidate is at hand
-abbrev Candidate : Type 0
-Candidate = tie.After-following invariant-loop decreases-loop invariant-search decreases-search
+  -- where the candidate is passed over, the search goes on from it and is nearer its end
+  on_from : (n m : ℕ) → Goes last latest nums n → m ≡ following n → among m passed ≡ true → Goes last latest nums m × (wait 6 passed m < wait 6 passed n)
+  on_from n m g e h = goes_on_lem _ _ nums _ _ four_nums g e h
 
--- where the walk for it has come to a place
-abbrev Walk : Type 0
-Walk = tie.At-loop invariant-loop decreases-loop invariant-search decreases-search
+  -- it is the latest
+  is_latest : (m : ℕ) → m ≡ latest → among m passed ≡ true
+  unfolding among
+  is_latest m e = rw (eq-eqb latest m (sym e))
 
--- where the number of that place is read
-abbrev Looked : Type 0
-Looked = tie.After-held-number invariant-loop decreases-loop invariant-search decreases-search
-
-abbrev walk : Looked → Walk
-walk c = c.before.before.before
-
-abbrev for : Walk → Candidate
-for c = c.before.before
-
-abbrev start : Candidate → Start
-start c = c.before.before
-
--- the numbers of the places, and with them all that is passed over
-abbrev nums : Candidate → List ℕ
-nums c = map held_number (start c).args.t1
-
-abbrev passed : Candidate → List ℕ
-passed c = (start c).args.latest ∷ nums c
-
--- ---- what holds there
-
-four : (c : Candidate) → length (nums c) ≡ 4
-four c = length-map (start c).args.t1 held_number ∙ search (rules, unmapped)
-
--- where the candidate is passed over, the search goes on from it and is nearer its end
-on_from : (c : Candidate) → among c.following.result (passed c) ≡ true
-    → Goes (start c).args.last (start c).args.latest (nums c) c.following.result
-    × (wait 6 (passed c) c.following.result < wait 6 (passed c) c.before.search.n)
-on_from c h = goes_on_lem _ _ (nums c) _ _ (four c) c.before.search.invariant c.following.ensures h
-
--- it is the latest
-is_latest : (c : tie.Then1 invariant-loop decreases-loop invariant-search decreases-search) → among c.before.following.result (passed c.before) ≡ true
-unfolding among
-is_latest c = rw (eq-eqb (start c.before).args.latest c.before.following.result (sym c.if1.true))
-
--- the place looked at is one of the four
-in_table : (c : Looked) → (walk c).loop.i < length (nums (for (walk c)))
-in_table c = let l = four (for (walk c)) in omega arith
-
--- and its number is what was read
-its_number : (c : Looked) → get_or (nums (for (walk c))) (walk c).loop.i 0 ≡ c.held_number.result
-unfolding held_number
-its_number c = get_or-map held_number (start (for (walk c))).args.t1 (walk c).loop.i _ ∙ sym c.held_number.ensures
-
--- the candidate is that number
-is_held : (c : tie.Then3 invariant-loop decreases-loop invariant-search decreases-search) → among (for (walk c.before)).following.result (passed (for (walk c.before))) ≡ true
-is_held c =
-    let at = walk c.before in
-    hit _ _ (nums (for at)) at.loop.i (in_table c.before) at.loop.inv.1 (its_number c.before ∙ c.if3.true)
-
--- ---- the needs
-
-pub search-init : goal.search-init
-search-init c = (omega arith, refl)
+  -- the number of the place looked at is what was read
+  its_number : (i k : ℕ) (z : Own) → k ≡ held_number (get_or own i z) → held_number z ≡ 0 → get_or nums i 0 ≡ k
+  its_number i k z e free = ap (get_or nums i) (sym free) ∙ get_or-map held_number own i z ∙ sym e
 
 pub search-smaller-then-n-latest : goal.search-smaller-then-n-latest
-search-smaller-then-n-latest c = (on_from c (is_latest c)).1
+search-smaller-then-n-latest c =
+    let four : length c.args.own ≡ 4 = search rules in
+    (on_from c.args.last c.args.latest c.args.own four _ _ c.search.invariant c.following-n.ensures (is_latest c.args.last c.args.latest c.args.own four _ c.if-n-latest.true)).1
 
 pub search-preserved-then-n-latest : goal.search-preserved-then-n-latest
-search-preserved-then-n-latest c = (on_from c (is_latest c)).0
-
-pub loop-i-init : goal.loop-i-init
-loop-i-init c = (omega arith, refl)
+search-preserved-then-n-latest c =
+    let four : length c.args.own ≡ 4 = search rules in
+    (on_from c.args.last c.args.latest c.args.own four _ _ c.search.invariant c.following-n.ensures (is_latest c.args.last c.args.latest c.args.own four _ c.if-n-latest.true)).0
 
 pub search-smaller : goal.search-smaller
-search-smaller c = (on_from (for (walk c)) (is_held c)).1
+unfolding held_number
+search-smaller c =
+    let four : length c.args.own ≡ 4 = search rules in
+    let four_n = four_nums c.args.last c.args.latest c.args.own four in
+    (on_from c.args.last c.args.latest c.args.own four _ _ c.search.invariant c.following-n.ensures
+    (hit _ _ (map held_number c.args.own) c.loop-i.i (omega arith) c.loop-i.invariant.1 (its_number c.args.last c.args.latest c.args.own four c.loop-i.i _ _ c.held_number.ensures refl ∙ c.if-held_number-n.true))).1
 
 pub search-preserved : goal.search-preserved
-search-preserved c = (on_from (for (walk c)) (is_held c)).0
+unfolding held_number
+search-preserved c =
+    let four : length c.args.own ≡ 4 = search rules in
+    let four_n = four_nums c.args.last c.args.latest c.args.own four in
+    (on_from c.args.last c.args.latest c.args.own four _ _ c.search.invariant c.following-n.ensures
+    (hit _ _ (map held_number c.args.own) c.loop-i.i (omega arith) c.loop-i.invariant.1 (its_number c.args.last c.args.latest c.args.own four c.loop-i.i _ _ c.held_number.ensures refl ∙ c.if-held_number-n.true))).0
 
 pub loop-i-preserved : goal.loop-i-preserved
+unfolding held_number
 loop-i-preserved c =
-    let at = walk c in
-    (search rules, miss _ (nums (for at)) at.loop.i (in_table c) at.loop.inv.1 (λ q. c.if-held_number-n.false (sym (its_number c) ∙ q)))
+    let four : length c.args.own ≡ 4 = search rules in
+    let four_n = four_nums c.args.last c.args.latest c.args.own four in
+    (
+      search rules,
+      miss _ (map held_number c.args.own) c.loop-i.i (omega arith) c.loop-i.invariant.1
+      (λ q. c.if-held_number-n.false (sym (its_number c.args.last c.args.latest c.args.own four c.loop-i.i _ _ c.held_number.ensures refl) ∙ q)),
+    )
 
 pub returns : goal.returns
 unfolding next_number
 returns c =
-    let at = for c in
-    let l = four at in
-    let none = left _ _ (nums at) c.loop-i.i (omega arith) c.loop-i.invariant.1 c.if-n-latest.false in
-    found (passed at) at.before.search.n at.following.result at.following.ensures none ∙ at.before.search.inv.1
+    let four : length c.args.own ≡ 4 = search rules in
+    let four_n = four_nums c.args.last c.args.latest c.args.own four in
+    let none = left _ _ (map held_number c.args.own) c.loop-i.i (omega arith) c.loop-i.invariant.1 c.if-n-latest.false in
+    found (c.args.latest ∷ map held_number c.args.own) c.search.n c.following-n.result c.following-n.ensures none ∙ c.search.invariant.1

@@ -1,0 +1,6 @@
+-- `send::failed` meets its contract.
+use borrow.Author.Rules.{rules}
+use Rattle.clerk.proofs.send.failed.Goals as goal
+
+pub returns : goal.returns
+returns c = rw c.failed_by.ensures at c.freeing.ensures

@@ -1,0 +1,19 @@
+-- `reporting::same_report` meets its contract.
+use borrow.Author.Tests.{eq-eqb, ne_eqb}
+use borrow.Author.Rules.{rules}
+use Rattle.desk.proofs.reporting.same_report.Goals as goal
+
+pub returns-then-said-function : goal.returns-then-said-function
+returns-then-said-function c = simp (c.in-Report.is, eq-eqb _ _ c.if-said-function.true)
+
+pub returns-in-Nothing : goal.returns-in-Nothing
+returns-in-Nothing c = simp c.in-Nothing.is
+
+pub returns-in-Primary : goal.returns-in-Primary
+returns-in-Primary c = simp c.in-Primary.is
+
+pub returns-in-Reply : goal.returns-in-Reply
+returns-in-Reply c = simp c.in-Reply.is
+
+pub returns-else-said-function : goal.returns-else-said-function
+returns-else-said-function c = simp (c.in-Report.is, ne_eqb _ _ c.if-said-function.false)

@@ -1,0 +1,6 @@
+-- `state::fresh` meets its contract.
+use borrow.Author.Rules.{rules}
+use Rattle.desk.proofs.state.fresh.Goals as goal
+
+pub returns : goal.returns
+returns c = simp (c.fresh-free.ensures, c.fresh-none.ensures, c.none-reports.ensures)

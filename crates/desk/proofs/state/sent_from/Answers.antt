@@ -1,0 +1,6 @@
+-- `state::sent_from` meets its contract.
+use borrow.Author.Rules.{rules}
+use Rattle.desk.proofs.state.sent_from.Goals as goal
+
+pub returns-in-Primary : goal.returns-in-Primary
+returns-in-Primary c = simp c.in-Primary.is

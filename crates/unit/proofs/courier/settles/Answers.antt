@@ -1,0 +1,8 @@
+-- `courier::settles` meets its contract.
+use borrow.Author.Rules.{rules}
+use Rattle.unit.proofs.courier.settles.Goals as goal
+
+pub returns : goal.returns
+returns c =
+    let line = c.settle-end.ensures in
+    (rw (c.put_codes-count.ensures.0, line) at c.answers.ensures, rw line at c.put_codes-count.ensures.1)

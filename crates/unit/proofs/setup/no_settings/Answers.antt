@@ -1,0 +1,6 @@
+-- `setup::no_settings` meets its contract.
+use borrow.Author.Rules.{rules}
+use Rattle.unit.proofs.setup.no_settings.Goals as goal
+
+pub returns : goal.returns
+returns c = rw (c.ticks.ensures, c.ticks-2.ensures, c.ticks-3.ensures, c.ticks-4.ensures)

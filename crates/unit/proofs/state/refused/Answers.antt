@@ -1,0 +1,6 @@
+-- `state::refused` meets its contract.
+use borrow.Author.Rules.{rules}
+use Rattle.unit.proofs.state.refused.Goals as goal
+
+pub returns : goal.returns
+returns c = rw c.no_flags.ensures at c.answers.ensures

@@ -1,0 +1,11 @@
+-- `told::data_in` meets its contract.
+use mathlib.Core.Path.{sym}
+use Rattle.unit.proofs.Courses.{short_part, whole_part}
+use borrow.Author.Rules.{rules}
+use Rattle.unit.proofs.told.data_in.Goals as goal
+
+pub returns-then-end-lt10 : goal.returns-then-end-lt10
+returns-then-end-lt10 c = sym (short_part _ _ c.if-end-lt10.true)
+
+pub returns : goal.returns
+returns c = whole_part _ _

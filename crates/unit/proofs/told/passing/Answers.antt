@@ -1,0 +1,9 @@
+-- `told::passing` meets its contract.
+use borrow.Author.Rules.{rules}
+use Rattle.unit.proofs.told.passing.Goals as goal
+
+pub returns-then-ticks : goal.returns-then-ticks
+returns-then-ticks c = simp (c.if-ticks.true, c.both_flags.ensures, c.tick-changed.ensures)
+
+pub returns : goal.returns
+returns c = simp c.if-ticks.false

@@ -1,0 +1,6 @@
+-- `told::untold` meets its contract.
+use borrow.Author.Rules.{rules}
+use Rattle.unit.proofs.told.untold.Goals as goal
+
+pub returns : goal.returns
+returns c = rw c.no_flags-flags.ensures
