@@ -12,8 +12,9 @@ mod run;
 ghost use Rattle.std.specs.Prelude.{◌≤◌, length};
 
 use answer::first;
-use libc::{STDIN_FILENO, STDOUT_FILENO};
 use script::Printed;
+use std::io;
+use std::io::Read;
 use talk::Bench;
 
 // What is carried from one line to the next: the unit, how many bytes are kept of a line whose end has not come, and how many wait to
@@ -41,104 +42,139 @@ fn keep(line: &mut [u8], kept: usize, part: &[u8]) -> usize {
     if line.len() - kept < part.len() {
         return line.len();
     }
-    bytes::copy(part, &mut line[kept..]);
-    kept + part.len()
+    let end = kept + part.len();
+    line[kept..end].copy_from_slice(part);
+    end
 }
 
 // Puts an answer behind those that wait to be printed. Where it has no room those are printed first.
-fn show(printed: Printed, bytes: &[u8], text: &mut [u8], waiting: usize) -> usize {
+fn show(
+    rt: &impl Print,
+    printed: Printed,
+    bytes: &[u8],
+    text: &mut [u8],
+    waiting: usize,
+) -> io::Result<usize> {
     if text.len() < waiting {
-        return scribe::print_line(printed, bytes, text);
+        return Ok(scribe::print_line(printed, bytes, text));
     }
     let count = scribe::print_line(printed, bytes, &mut text[waiting..]);
     if 0 < count {
-        return waiting + count;
+        return Ok(waiting + count);
     }
-    io::write_all(STDOUT_FILENO, first(text, waiting));
-    scribe::print_line(printed, bytes, text)
+    rt.write_all(first(text, waiting))?;
+    Ok(scribe::print_line(printed, bytes, text))
 }
 
 // Does what a whole line says, and puts the answer behind those that wait to be printed.
 fn line_end(
+    rt: &impl Print,
     carried: Carried,
     line: &[u8],
     room: &mut [u8],
     out: &mut [u8],
     text: &mut [u8],
-) -> Carried
+) -> io::Result<Carried>
     requires { length out.old ≤ 4096 }
 {
     let bench = carried.bench;
     let shown = answer::line(bench, first(line, carried.kept), room, out);
     let after = shown.bench;
     let printed = shown.printed;
-    Carried {
+    let waiting = show(rt, printed, first(out, shown.count), text, carried.waiting)?;
+    Ok(Carried {
         bench: after,
         kept: 0,
-        waiting: show(printed, first(out, shown.count), text, carried.waiting),
+        waiting,
+    })
+}
+
+// Where the next end of a line stands in a piece from `start` on, or the piece's length where there is none.
+fn end_from(piece: &[u8], start: usize) -> usize
+    requires { start ≤ length piece.now }
+    ensures from_start { start ≤ result }
+    ensures within { result ≤ length piece.now }
+{
+    let mut i = start;
+    while i < piece.len() {
+        if piece[i] == b'\n' {
+            return i;
+        }
+        i += 1;
     }
+    i
 }
 
 // Takes a piece of the input: does what each line says whose end comes, and keeps what stands behind the last end.
 fn lines(
+    rt: &impl Print,
     carried: Carried,
     piece: &[u8],
     line: &mut [u8],
     room: &mut [u8],
     out: &mut [u8],
     text: &mut [u8],
-) -> Carried
+) -> io::Result<Carried>
     requires { length out.old ≤ 4096 }
 {
     let mut now = carried;
     let mut at: usize = 0;
     while at < piece.len() {
-        let end = bytes::scan::find(piece, at, piece.len(), b'\n');
+        let end = end_from(piece, at);
         now.kept = keep(line, now.kept, &piece[at..end]);
         if end == piece.len() {
-            return now;
+            return Ok(now);
         }
-        now = line_end(now, line, room, out, text);
+        now = line_end(rt, now, line, room, out, text)?;
         at = end + 1;
     }
-    now
+    Ok(now)
 }
 
-// Prints what waits to be printed. Whether that went well is all that is left to say.
-fn print(carried: Carried, text: &[u8]) -> bool {
-    io::write_all(STDOUT_FILENO, first(text, carried.waiting))
+// Prints what waits to be printed.
+fn print(rt: &impl Print, carried: Carried, text: &[u8]) -> io::Result<()> {
+    rt.write_all(first(text, carried.waiting))
 }
 
 // Reads a piece of the input, as much as there is, does what its lines say, and prints the answers.
 fn take_piece(
+    rt: &impl Print,
+    input: &mut impl Read,
     carried: Carried,
     line: &mut [u8],
     room: &mut [u8],
     out: &mut [u8],
     text: &mut [u8],
-) -> Taken
+) -> io::Result<Taken>
     requires { length out.old ≤ 4096 }
 {
-    let mut piece = io::large_buffer();
-    let n = io::count(libc::read(STDIN_FILENO, &mut piece), &piece);
+    let mut piece = [0u8; 65536];
+    let n = input.read(&mut piece)?;
     if n == 0 {
-        return Taken {
+        return Ok(Taken {
             carried,
             more: false,
-        };
+        });
     }
-    let mut after = lines(carried, &piece[..n], line, room, out, text);
-    let more = print(after, text);
+    let mut after = lines(rt, carried, &piece[..n], line, room, out, text)?;
+    print(rt, after, text)?;
     after.waiting = 0;
-    Taken {
+    Ok(Taken {
         carried: after,
-        more,
-    }
+        more: true,
+    })
 }
 
 // Takes the whole input. A loop has to end, and nothing says that the input does, so the loop counts its turns down from a number
 // that no run uses up.
-fn take_input(line: &mut [u8], room: &mut [u8], out: &mut [u8], text: &mut [u8]) -> Carried
+fn take_input(
+    rt: &impl Print,
+    input: &mut impl Read,
+    line: &mut [u8],
+    room: &mut [u8],
+    out: &mut [u8],
+    text: &mut [u8],
+) -> io::Result<Carried>
     requires { length out.old ≤ 4096 }
 {
     let mut now = Carried {
@@ -148,25 +184,27 @@ fn take_input(line: &mut [u8], room: &mut [u8], out: &mut [u8], text: &mut [u8])
     };
     let mut turns = u64::MAX;
     while turns > 0 {
-        let taken = take_piece(now, line, room, out, text);
+        let taken = take_piece(rt, input, now, line, room, out, text)?;
         now = taken.carried;
         if !taken.more {
-            return now;
+            return Ok(now);
         }
         turns -= 1;
     }
-    now
+    Ok(now)
 }
 
 // The last line may lack its end.
-fn main() {
+fn main(rt: HostRuntime) -> io::Result<()> {
     let mut line = [0u8; 1025];
     let mut room = [0u8; 36864];
     let mut out = [0u8; 4096];
-    let mut text = io::large_buffer();
-    let carried = take_input(&mut line, &mut room, &mut out, &mut text);
+    let mut text = [0u8; 65536];
+    let mut input = rt.stdin();
+    let carried = take_input(&rt, &mut input, &mut line, &mut room, &mut out, &mut text)?;
     if 0 < carried.kept {
-        let last = line_end(carried, &line, &mut room, &mut out, &mut text);
-        print(last, &text);
+        let last = line_end(&rt, carried, &line, &mut room, &mut out, &mut text)?;
+        print(&rt, last, &text)?;
     }
+    Ok(())
 }

@@ -18,6 +18,11 @@ mod text;
 mod traffic;
 mod trial;
 
+ghost use Rattle.std.specs.Prelude.{◌≤◌, length, IfOk};
+
+use std::io;
+use std::io::Read;
+
 // What a piece of the input leaves.
 #[derive(Clone, Copy)]
 enum Input {
@@ -28,71 +33,98 @@ enum Input {
 }
 
 // Answers a whole line. One that did not fit is answered as one that can't be read.
-fn answer(line: &[u8; 1024], kept: usize) {
+fn answer(rt: &impl Print, line: &[u8; 1024], kept: usize) -> io::Result<()> {
     let all: &[u8] = line;
     if kept <= all.len() {
-        run::answer(&all[0..kept]);
+        run::answer(rt, &all[0..kept])?;
     } else {
-        show::unreadable();
+        show::unreadable(rt)?;
     }
-    show::text(b"\n");
+    show::text(rt, b"\n")
 }
 
 // Takes one byte of the input, and gives back how many bytes of the line are kept. 1,025 stands for a line that is
 // too long: none of it beyond the 1,024th byte is kept.
-fn take(line: &mut [u8; 1024], kept: usize, byte: u8) -> usize {
+fn take(rt: &impl Print, line: &mut [u8; 1024], kept: usize, byte: u8) -> io::Result<usize> {
     if byte == b'\n' {
-        answer(line, kept);
-        return 0;
+        answer(rt, line, kept)?;
+        return Ok(0);
     }
     if kept < 1024 {
         line[kept] = byte;
-        return kept + 1;
+        return Ok(kept + 1);
     }
-    1025
+    Ok(1025)
 }
 
 // Takes each byte of a piece of the input.
-fn take_all(line: &mut [u8; 1024], kept: usize, piece: &[u8]) -> usize {
+fn take_all(
+    rt: &impl Print,
+    line: &mut [u8; 1024],
+    kept: usize,
+    piece: &[u8],
+) -> io::Result<usize> {
     let mut now_kept = kept;
     let mut i: usize = 0;
     while i < piece.len() {
-        now_kept = take(line, now_kept, piece[i]);
+        now_kept = take(rt, line, now_kept, piece[i])?;
         i += 1;
     }
-    now_kept
+    Ok(now_kept)
+}
+
+// Reads until the piece is full or the input ends, and gives back how many bytes were put at the start of the piece.
+fn read_full(input: &mut impl Read, piece: &mut [u8]) -> io::Result<usize>
+    ensures { IfOk result (λ n. n ≤ length piece.new) }
+{
+    let mut done: usize = 0;
+    while done < piece.len() {
+        let n = input.read(&mut piece[done..])?;
+        if n == 0 {
+            return Ok(done);
+        }
+        done += n;
+    }
+    Ok(done)
 }
 
 // Reads a piece of the input, and answers the lines that end in it.
-fn take_piece(line: &mut [u8; 1024], kept: usize) -> Input {
-    let mut piece = io::large_buffer();
-    let n = io::read_full(0, &mut piece);
+fn take_piece(
+    rt: &impl Print,
+    input: &mut impl Read,
+    line: &mut [u8; 1024],
+    kept: usize,
+) -> io::Result<Input> {
+    let mut piece = [0u8; 65536];
+    let n = read_full(input, &mut piece)?;
     if n == 0 {
-        return Input::Ended;
+        return Ok(Input::Ended);
     }
-    Input::Kept(take_all(line, kept, &piece[..n]))
+    Ok(Input::Kept(take_all(rt, line, kept, &piece[..n])?))
 }
 
 // Reads the whole input, and gives back how many bytes of a last line without an end are kept. A loop has to end,
 // and nothing says that the input does, so the loop counts its turns down from a number that no run uses up.
-fn take_input(line: &mut [u8; 1024]) -> usize {
+fn take_input(rt: &impl Print, input: &mut impl Read, line: &mut [u8; 1024]) -> io::Result<usize> {
     let mut kept: usize = 0;
     let mut turns = u64::MAX;
     while turns > 0 {
-        match take_piece(line, kept) {
+        match take_piece(rt, input, line, kept)? {
             Input::Kept(n) => kept = n,
-            Input::Ended => return kept,
+            Input::Ended => return Ok(kept),
         }
         turns -= 1;
     }
-    kept
+    Ok(kept)
 }
 
 // The last line may lack its end.
-fn main() {
+fn main(rt: HostRuntime) -> io::Result<()> {
     let mut line = [0u8; 1024];
-    let kept = take_input(&mut line);
+    let mut input = rt.stdin();
+    let kept = take_input(&rt, &mut input, &mut line)?;
     if 0 < kept {
-        answer(&line, kept);
+        answer(&rt, &line, kept)?;
     }
+    Ok(())
 }

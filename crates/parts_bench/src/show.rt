@@ -1,28 +1,24 @@
-// Printing on standard output. A write that fails is passed over: there is nowhere to say so.
-use libc::STDOUT_FILENO;
+// Printing on standard output.
+use std::io;
 
 // Bytes as they stand.
-pub(crate) fn text(bytes: &[u8]) {
-    io::write_all(STDOUT_FILENO, bytes);
+pub(crate) fn text(rt: &impl Print, bytes: &[u8]) -> io::Result<()> {
+    rt.write_all(bytes)
 }
 
 // What a line that can't be read is answered by.
-pub(crate) fn unreadable() {
-    text(b"?");
+pub(crate) fn unreadable(rt: &impl Print) -> io::Result<()> {
+    text(rt, b"?")
 }
 
 // A number in decimal, without leading zeros.
-pub(crate) fn decimal(n: usize) {
-    io::print_decimal(STDOUT_FILENO, n as u64);
+pub(crate) fn decimal(rt: &impl Print, n: usize) -> io::Result<()> {
+    rt.print(n)
 }
 
 // A bit as 0 or 1.
-pub(crate) fn bit(on: bool) {
-    if on {
-        text(b"1");
-    } else {
-        text(b"0");
-    }
+pub(crate) fn bit(rt: &impl Print, on: bool) -> io::Result<()> {
+    if on { text(rt, b"1") } else { text(rt, b"0") }
 }
 
 // The character of a hex digit, in upper case.
@@ -35,31 +31,32 @@ fn digit(value: u8) -> u8 {
 }
 
 // A byte as two hex digits.
-pub(crate) fn byte(value: u8) {
+pub(crate) fn byte(rt: &impl Print, value: u8) -> io::Result<()> {
     let digits = [digit(value / 16), digit(value % 16)];
-    text(&digits);
+    text(rt, &digits)
 }
 
 // Bytes in hex, or `-` where there are none.
-pub(crate) fn hex(bytes: &[u8]) {
+pub(crate) fn hex(rt: &impl Print, bytes: &[u8]) -> io::Result<()> {
     if bytes.len() == 0 {
-        text(b"-");
+        text(rt, b"-")?;
     }
     let mut i: usize = 0;
     while i < bytes.len() {
-        byte(bytes[i]);
+        byte(rt, bytes[i])?;
         i += 1;
     }
+    Ok(())
 }
 
 // A space, and a number in decimal.
-pub(crate) fn next_decimal(n: usize) {
-    text(b" ");
-    decimal(n);
+pub(crate) fn next_decimal(rt: &impl Print, n: usize) -> io::Result<()> {
+    text(rt, b" ")?;
+    decimal(rt, n)
 }
 
 // A space, and a bit.
-pub(crate) fn next_bit(on: bool) {
-    text(b" ");
-    bit(on);
+pub(crate) fn next_bit(rt: &impl Print, on: bool) -> io::Result<()> {
+    text(rt, b" ")?;
+    bit(rt, on)
 }

@@ -50,6 +50,7 @@ use header::Header;
 use place::{Reply, Standing};
 use room::Message;
 use settings::{Agreed, MessagePanel, Seconds, Terms};
+use std::io;
 
 // A call. Its bytes, `count` of them, lie in a buffer of their own.
 #[derive(Clone, Copy)]
@@ -99,20 +100,19 @@ enum Which {
 }
 
 // Takes ROLE off.
-pub(crate) fn answer(fields: &[u8]) {
+pub(crate) fn answer(rt: &impl Print, fields: &[u8]) -> io::Result<()> {
     match text::front_role(fields) {
-        Role::Host => take_settings(true, text::from(fields, 1)),
-        Role::Equipment => take_settings(false, text::from(fields, 1)),
-        Role::Unreadable => show::unreadable(),
+        Role::Host => take_settings(rt, true, text::from(fields, 1)),
+        Role::Equipment => take_settings(rt, false, text::from(fields, 1)),
+        Role::Unreadable => show::unreadable(rt),
     }
 }
 
 // Behind ROLE: takes the settings off. What is left begins with the space before the first CALL.
-fn take_settings(host: bool, fields: &[u8]) {
+fn take_settings(rt: &impl Print, host: bool, fields: &[u8]) -> io::Result<()> {
     let numbers = text::front_numbers(fields, b' ', 5);
     if !numbers.readable {
-        show::unreadable();
-        return;
+        return show::unreadable(rt);
     }
     let panel = MessagePanel {
         t3: Seconds(numbers.values[0]),
@@ -123,15 +123,20 @@ fn take_settings(host: bool, fields: &[u8]) {
     };
     match panel.terms() {
         Agreed::Terms(terms) => {
-            show::text(b"0");
-            run_calls(terms, numbers.values[4], text::from(fields, numbers.end));
+            show::text(rt, b"0")?;
+            run_calls(
+                rt,
+                terms,
+                numbers.values[4],
+                text::from(fields, numbers.end),
+            )
         }
-        Agreed::OutOfRange => show::text(b"4"),
+        Agreed::OutOfRange => show::text(rt, b"4"),
     }
 }
 
 // Makes each call in turn, up to one that can't be read. `at` is where the space before it stands.
-fn run_calls(terms: Terms, last: u16, calls: &[u8]) {
+fn run_calls(rt: &impl Print, terms: Terms, last: u16, calls: &[u8]) -> io::Result<()> {
     let mut room = [0xEEu8; 36864];
     let mut bytes = [0u8; 5000];
     let mut exchange = desk::fresh(last);
@@ -139,14 +144,14 @@ fn run_calls(terms: Terms, last: u16, calls: &[u8]) {
     while at < calls.len() {
         let start = at + 1;
         at = text::mark_from(calls, b' ', start);
-        show::text(b" ");
+        show::text(rt, b" ")?;
         let call = read_call(&calls[start..at], &mut bytes);
         if is_unreadable(call) {
-            show::unreadable();
-            return;
+            return show::unreadable(rt);
         }
-        exchange = make(terms, exchange, call, &bytes, &mut room);
+        exchange = make(rt, terms, exchange, call, &bytes, &mut room)?;
     }
+    Ok(())
 }
 
 // Whether a call could not be read.
@@ -357,163 +362,177 @@ fn bytes_at(message: Message, offset: usize, length: usize) -> Call {
 
 // Makes a call, shows what came of it, and gives the exchange back that it left.
 fn make(
+    rt: &impl Print,
     terms: Terms,
     exchange: Exchange,
     call: Call,
     bytes: &[u8; 5000],
     room: &mut [u8; 36864],
-) -> Exchange {
+) -> io::Result<Exchange> {
     match call {
         Call::Open { primary, count } => {
-            asked(clerk::open(exchange, terms, primary, text::first(bytes, count), room))
+            asked(
+                rt,
+                clerk::open(exchange, terms, primary, text::first(bytes, count), room),
+            )
         }
         Call::Reply {
             place,
             function,
             count,
-        } => asked(clerk::reply(exchange, place, function, text::first(bytes, count), room)),
-        Call::PutOut => put_out(exchange),
-        Call::Sent => changed(clerk::sent(exchange)),
-        Call::Failed => changed(clerk::failed(exchange)),
-        Call::Block { count } => judge(terms, exchange, text::first(bytes, count), room),
-        Call::Ticks(count) => tick_on(terms, exchange, count),
-        Call::ReleaseOwn(place) => released(clerk::release_own(exchange, place)),
-        Call::ReleaseIncoming(place) => released(clerk::release_incoming(exchange, place)),
-        Call::SetLast(last) => set_last(exchange, last),
+        } => asked(
+            rt,
+            clerk::reply(exchange, place, function, text::first(bytes, count), room),
+        ),
+        Call::PutOut => put_out(rt, exchange),
+        Call::Sent => changed(rt, clerk::sent(exchange)),
+        Call::Failed => changed(rt, clerk::failed(exchange)),
+        Call::Block { count } => judge(rt, terms, exchange, text::first(bytes, count), room),
+        Call::Ticks(count) => tick_on(rt, terms, exchange, count),
+        Call::ReleaseOwn(place) => released(rt, clerk::release_own(exchange, place)),
+        Call::ReleaseIncoming(place) => released(rt, clerk::release_incoming(exchange, place)),
+        Call::SetLast(last) => set_last(rt, exchange, last),
         Call::Look(look) => {
-            show_look(exchange, look, room);
-            exchange
+            show_look(rt, exchange, look, room)?;
+            Ok(exchange)
         }
-        Call::Unreadable => exchange,
+        Call::Unreadable => Ok(exchange),
     }
 }
 
 // A request to send a message.
-fn asked(requested: Requested) -> Exchange {
+fn asked(rt: &impl Print, requested: Requested) -> io::Result<Exchange> {
     let asked = requested.asked;
     match asked {
         Asked::Taken(place) => {
-            show::decimal(place);
-            show_outgoing(clerk::outgoing(requested.exchange));
+            show::decimal(rt, place)?;
+            show_outgoing(rt, clerk::outgoing(requested.exchange))?;
         }
-        Asked::Refused(why) => show::decimal(clerk::refusal_number(why) as usize),
+        Asked::Refused(why) => show::decimal(rt, clerk::refusal_number(why) as usize)?,
     }
-    requested.exchange
+    Ok(requested.exchange)
 }
 
 // Shows the message that is being sent.
-fn show_outgoing(outgoing: Outgoing) {
+fn show_outgoing(rt: &impl Print, outgoing: Outgoing) -> io::Result<()> {
     match outgoing {
-        Outgoing::Nothing => show::text(b":-"),
+        Outgoing::Nothing => show::text(rt, b":-"),
         Outgoing::Message { header, length } => {
-            show::text(b":");
-            show_header(header);
-            show::text(b":");
-            show::decimal(length as usize);
+            show::text(rt, b":")?;
+            show_header(rt, header)?;
+            show::text(rt, b":")?;
+            show::decimal(rt, length as usize)
         }
         // A report: its function and its number.
         Outgoing::Report { function, number } => {
-            show::text(b":9:");
-            show::decimal(function as usize);
-            show::text(b":");
-            show::decimal(number as usize);
+            show::text(rt, b":9:")?;
+            show::decimal(rt, function as usize)?;
+            show::text(rt, b":")?;
+            show::decimal(rt, number as usize)
         }
     }
 }
 
 // Shows the ten bytes of a header.
-fn show_header(header: Header) {
+fn show_header(rt: &impl Print, header: Header) -> io::Result<()> {
     let ten = header.bytes();
-    show::hex(&ten);
+    show::hex(rt, &ten)
 }
 
 // The last block leaves: no flag tells of it.
-fn put_out(exchange: Exchange) -> Exchange {
-    show::text(b"-");
-    clerk::put_out(exchange)
+fn put_out(rt: &impl Print, exchange: Exchange) -> io::Result<Exchange> {
+    show::text(rt, b"-")?;
+    Ok(clerk::put_out(exchange))
 }
 
 // The end of a sending.
-fn changed(changed: Changed) -> Exchange {
+fn changed(rt: &impl Print, changed: Changed) -> io::Result<Exchange> {
     let flags = changed.flags;
     if any_flag(flags) {
-        show_flags(flags);
+        show_flags(rt, flags)?;
     } else {
-        show::text(b"-");
+        show::text(rt, b"-")?;
     }
-    changed.exchange
+    Ok(changed.exchange)
 }
 
 // A block goes up.
-fn judge(terms: Terms, exchange: Exchange, block: &[u8], room: &mut [u8]) -> Exchange {
+fn judge(
+    rt: &impl Print,
+    terms: Terms,
+    exchange: Exchange,
+    block: &[u8],
+    room: &mut [u8],
+) -> io::Result<Exchange> {
     if block.len() < 10 {
-        return exchange;
+        return Ok(exchange);
     }
     let mut ten = [0u8; 10];
-    bytes::copy(&block[0..10], &mut ten);
+    ten.copy_from_slice(&block[0..10]);
     let judged = judging::judge(exchange, terms, ten, &block[10..], room);
     let note = judged.note;
     let flags = judged.flags;
-    show_judged(note, flags);
-    judged.exchange
+    show_judged(rt, note, flags)?;
+    Ok(judged.exchange)
 }
 
 // Shows what a block came to.
-fn show_judged(note: Note, flags: Flags) {
-    show::decimal(desk::note_number(note) as usize);
+fn show_judged(rt: &impl Print, note: Note, flags: Flags) -> io::Result<()> {
+    show::decimal(rt, desk::note_number(note) as usize)?;
     if any_flag(flags) {
-        show::text(b"/");
-        show_flags(flags);
+        show::text(rt, b"/")?;
+        show_flags(rt, flags)?;
     }
+    Ok(())
 }
 
 // So many ticks.
-fn tick_on(terms: Terms, before: Exchange, count: u16) -> Exchange {
+fn tick_on(rt: &impl Print, terms: Terms, before: Exchange, count: u16) -> io::Result<Exchange> {
     let mut exchange = before;
     let mut shown = false;
     let mut i: u16 = 0;
     while i < count {
         i += 1;
         let changed = clerk::tick(exchange, terms);
-        shown = show_tick(shown, i, changed.flags);
+        shown = show_tick(rt, shown, i, changed.flags)?;
         exchange = changed.exchange;
     }
     if !shown {
-        show::text(b"-");
+        show::text(rt, b"-")?;
     }
-    exchange
+    Ok(exchange)
 }
 
 // Shows a tick with flags, and says whether one has been shown.
-fn show_tick(shown: bool, i: u16, flags: Flags) -> bool {
+fn show_tick(rt: &impl Print, shown: bool, i: u16, flags: Flags) -> io::Result<bool> {
     if !any_flag(flags) {
-        return shown;
+        return Ok(shown);
     }
     if shown {
-        show::text(b",");
+        show::text(rt, b",")?;
     }
-    show::decimal(i as usize);
-    show::text(b"/");
-    show_flags(flags);
-    true
+    show::decimal(rt, i as usize)?;
+    show::text(rt, b"/")?;
+    show_flags(rt, flags)?;
+    Ok(true)
 }
 
 // A release.
-fn released(requested: Requested) -> Exchange {
+fn released(rt: &impl Print, requested: Requested) -> io::Result<Exchange> {
     let asked = requested.asked;
     match asked {
-        Asked::Taken(_) => show::text(b"0"),
-        Asked::Refused(why) => show::decimal(clerk::refusal_number(why) as usize),
+        Asked::Taken(_) => show::text(rt, b"0")?,
+        Asked::Refused(why) => show::decimal(rt, clerk::refusal_number(why) as usize)?,
     }
-    requested.exchange
+    Ok(requested.exchange)
 }
 
 // Another last transaction number.
-fn set_last(exchange: Exchange, last: u16) -> Exchange {
+fn set_last(rt: &impl Print, exchange: Exchange, last: u16) -> io::Result<Exchange> {
     let mut after = exchange;
     after.numbers.last = last;
-    show::text(b"0");
-    after
+    show::text(rt, b"0")?;
+    Ok(after)
 }
 
 // Whether one of four places is marked.
@@ -543,119 +562,126 @@ fn any_flag(flags: Flags) -> bool {
 }
 
 // Shows a letter and a place, for each place that is marked.
-fn show_marks(letter: u8, marks: [bool; 4]) {
+fn show_marks(rt: &impl Print, letter: u8, marks: [bool; 4]) -> io::Result<()> {
     let mut i: usize = 0;
     while i < 4 {
         if marks[i] {
-            show::text(&[letter]);
-            show::decimal(i);
+            show::text(rt, &[letter])?;
+            show::decimal(rt, i)?;
         }
         i += 1;
     }
+    Ok(())
 }
 
 // Shows each flag.
-fn show_flags(flags: Flags) {
+fn show_flags(rt: &impl Print, flags: Flags) -> io::Result<()> {
     let verdicts = flags.verdicts;
     let completed = flags.completed;
     let dropped = flags.dropped;
-    show_marks(b'v', verdicts);
-    show_marks(b'c', completed);
-    show_marks(b'd', dropped);
+    show_marks(rt, b'v', verdicts)?;
+    show_marks(rt, b'c', completed)?;
+    show_marks(rt, b'd', dropped)
 }
 
 // Shows what is looked at.
-fn show_look(exchange: Exchange, look: Look, room: &[u8; 36864]) {
+fn show_look(
+    rt: &impl Print,
+    exchange: Exchange,
+    look: Look,
+    room: &[u8; 36864],
+) -> io::Result<()> {
     match look {
-        Look::Own(place) => show_own(desk::own_reading(exchange, place)),
-        Look::Incoming(place) => show_incoming(desk::incoming_reading(exchange, place)),
+        Look::Own(place) => show_own(rt, desk::own_reading(exchange, place)),
+        Look::Incoming(place) => show_incoming(rt, desk::incoming_reading(exchange, place)),
         Look::Bytes {
             message,
             offset,
             length,
-        } => show::hex(store::bytes_of(room, message, offset, length)),
-        Look::Areas => show_areas(room),
+        } => show::hex(rt, store::bytes_of(room, message, offset, length)),
+        Look::Areas => show_areas(rt, room),
     }
 }
 
 // Shows an own place.
-fn show_own(reading: OwnReading) {
+fn show_own(rt: &impl Print, reading: OwnReading) -> io::Result<()> {
     match reading {
-        OwnReading::NoPlace => show::text(b"9"),
+        OwnReading::NoPlace => show::text(rt, b"9"),
         OwnReading::Place {
             primary,
             standing,
             reply,
         } => {
-            show_standing(standing);
-            show::text(b":");
-            show_header(primary);
-            show_reply(reply);
+            show_standing(rt, standing)?;
+            show::text(rt, b":")?;
+            show_header(rt, primary)?;
+            show_reply(rt, reply)
         }
     }
 }
 
 // Shows a verdict, or 0 as long as it has not fallen.
-fn show_standing(standing: Standing) {
+fn show_standing(rt: &impl Print, standing: Standing) -> io::Result<()> {
     match standing {
-        Standing::Free => show::text(b"-"),
-        Standing::Open => show::text(b"0"),
-        Standing::Given(verdict) => show::decimal(life::verdict_number(verdict) as usize),
+        Standing::Free => show::text(rt, b"-"),
+        Standing::Open => show::text(rt, b"0"),
+        Standing::Given(verdict) => show::decimal(rt, life::verdict_number(verdict) as usize),
     }
 }
 
 // Shows what is kept of a reply.
-fn show_reply(reply: Reply) {
-    show::text(b":");
-    show::bit(reply.w);
-    show::text(b":");
-    show::decimal(reply.stream as usize);
-    show::text(b":");
-    show::decimal(reply.function as usize);
-    show::text(b":");
-    show::decimal(reply.length as usize);
+fn show_reply(rt: &impl Print, reply: Reply) -> io::Result<()> {
+    show::text(rt, b":")?;
+    show::bit(rt, reply.w)?;
+    show::text(rt, b":")?;
+    show::decimal(rt, reply.stream as usize)?;
+    show::text(rt, b":")?;
+    show::decimal(rt, reply.function as usize)?;
+    show::text(rt, b":")?;
+    show::decimal(rt, reply.length as usize)
 }
 
 // Shows an incoming place.
-fn show_incoming(reading: IncomingReading) {
+fn show_incoming(rt: &impl Print, reading: IncomingReading) -> io::Result<()> {
     match reading {
-        IncomingReading::NoPlace => show::text(b"9"),
+        IncomingReading::NoPlace => show::text(rt, b"9"),
         IncomingReading::Place {
             primary,
             length,
             complete,
             reply,
         } => {
-            show_header(primary);
-            show::text(b":");
-            show::bit(complete);
-            show_stage(reply);
-            show::decimal(length as usize);
+            show_header(rt, primary)?;
+            show::text(rt, b":")?;
+            show::bit(rt, complete)?;
+            show_stage(rt, reply)?;
+            show::decimal(rt, length as usize)
         }
     }
 }
 
 // Shows how our reply to an incoming message stands.
-fn show_stage(stage: ReplyStage) {
+fn show_stage(rt: &impl Print, stage: ReplyStage) -> io::Result<()> {
     match stage {
-        ReplyStage::NotOwed => show::text(b":none:"),
-        ReplyStage::Owed => show::text(b":owed:"),
-        ReplyStage::OnItsWay => show::text(b":sending:"),
-        ReplyStage::Sent => show::text(b":sent:"),
-        ReplyStage::Failed => show::text(b":failed:"),
+        ReplyStage::NotOwed => show::text(rt, b":none:"),
+        ReplyStage::Owed => show::text(rt, b":owed:"),
+        ReplyStage::OnItsWay => show::text(rt, b":sending:"),
+        ReplyStage::Sent => show::text(rt, b":sent:"),
+        ReplyStage::Failed => show::text(rt, b":failed:"),
     }
 }
 
 // Shows of each area how many of its bytes are not 0xEE.
-fn show_areas(room: &[u8; 36864]) {
+fn show_areas(rt: &impl Print, room: &[u8; 36864]) -> io::Result<()> {
     let all: &[u8] = room;
     let mut i: usize = 0;
     while i < 9 {
         if 0 < i {
-            show::text(b":");
+            show::text(rt, b":")?;
         }
         let start = i * 4096;
-        show::decimal(run::changed(&all[start..start + 4096]));
+        show::decimal(rt, run::changed(&all[start..start + 4096]))?;
         i += 1;
     }
+    Ok(())
 }

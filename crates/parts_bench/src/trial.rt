@@ -14,13 +14,14 @@
 // It prints 4, and nothing of the calls, if a setting is out of its range. Else it prints 0, and for each CALLS a space and
 // what came of them. That is, for each call that put something out, told or remarked something, in their order and with a comma
 // between two: what went out, a code as two hex digits and our whole block as `*`; then what was told, which is `/sent`,
-// `/failed`, or `/up=` and the N bytes of the block that came, or what was remarked, which is `/gave_way`, or `/` and the note of a
+// `/failed`, or `/up=` and the N bytes of the block that came, or what was remarked, which is `/gave-way`, or `/` and the note of a
 // NAK. `-` stands where no call did.
 // CALLS that can't be read print `?`, and end the run. If ROLE or a setting can't be read, `?` is all.
 use crate::text::{Field, Role};
 use crate::{show, text};
 use line::{Line, Out, Remark, Step, Told};
 use settings::{Fifths, Limits, Panel, Taken, Tenths};
+use std::io;
 
 // The line amid the calls of a field, and whether one of them has shown something.
 #[derive(Clone, Copy)]
@@ -37,25 +38,26 @@ enum Made {
 }
 
 // Takes ROLE off. The equipment is the master, the host the slave.
-pub(crate) fn answer(fields: &[u8]) {
+pub(crate) fn answer(rt: &impl Print, fields: &[u8]) -> io::Result<()> {
     match text::front_role(fields) {
-        Role::Host => take_settings(false, text::from(fields, 1)),
-        Role::Equipment => take_settings(true, text::from(fields, 1)),
-        Role::Unreadable => show::unreadable(),
+        Role::Host => take_settings(rt, false, text::from(fields, 1)),
+        Role::Equipment => take_settings(rt, true, text::from(fields, 1)),
+        Role::Unreadable => show::unreadable(rt),
     }
 }
 
 // Behind ROLE: takes T1, T2 and RTY off. What is left begins with the space before the first CALLS: so an empty field differs
 // from none.
-fn take_settings(master: bool, fields: &[u8]) {
+fn take_settings(rt: &impl Print, master: bool, fields: &[u8]) -> io::Result<()> {
     let numbers = text::front_numbers(fields, b' ', 3);
     let rty = numbers.values[2];
     if !numbers.readable {
-        show::unreadable();
+        show::unreadable(rt)
     } else if 255 < rty {
-        show::unreadable();
+        show::unreadable(rt)
     } else {
         take_panel(
+            rt,
             Panel {
                 t1: Tenths(numbers.values[0]),
                 t2: Fifths(numbers.values[1]),
@@ -63,116 +65,147 @@ fn take_settings(master: bool, fields: &[u8]) {
                 master,
             },
             text::from(fields, numbers.end),
-        );
+        )
     }
 }
 
 // Makes the calls, if each setting is in its range.
-fn take_panel(panel: Panel, calls: &[u8]) {
+fn take_panel(rt: &impl Print, panel: Panel, calls: &[u8]) -> io::Result<()> {
     match panel.limits() {
         Taken::Limits(limits) => {
-            show::text(b"0");
-            run(limits, calls);
+            show::text(rt, b"0")?;
+            run(rt, limits, calls)
         }
-        Taken::OutOfRange => show::text(b"4"),
+        Taken::OutOfRange => show::text(rt, b"4"),
     }
 }
 
 // Makes the calls of each field in turn, up to one that can't be read. `at` is where the space before it stands.
-fn run(limits: Limits, calls: &[u8]) {
+fn run(rt: &impl Print, limits: Limits, calls: &[u8]) -> io::Result<()> {
     let mut received = [0u8; 256];
     let mut line = Line::fresh();
     let mut at: usize = 0;
     while at < calls.len() {
         let start = at + 1;
         let end = text::mark_from(calls, b' ', start);
-        show::text(b" ");
-        match run_field(limits, line, &calls[start..end], &mut received) {
+        show::text(rt, b" ")?;
+        match run_field(rt, limits, line, &calls[start..end], &mut received)? {
             Made::Line(next) => line = next,
-            Made::Unreadable => {
-                show::unreadable();
-                return;
-            }
+            Made::Unreadable => return show::unreadable(rt),
         }
         at = end;
     }
+    Ok(())
 }
 
 // The calls of one field. `A` and `D` alone are calls, and in pairs they are hex digits.
-fn run_field(limits: Limits, line: Line, field: &[u8], received: &mut [u8; 256]) -> Made {
+fn run_field(
+    rt: &impl Print,
+    limits: Limits,
+    line: Line,
+    field: &[u8],
+    received: &mut [u8; 256],
+) -> io::Result<Made> {
     if field.len() == 0 {
-        return Made::Unreadable;
+        return Ok(Made::Unreadable);
     }
     let first = field[0];
     if first == b'T' {
-        return run_ticks(limits, line, &field[1..], received);
+        return run_ticks(rt, limits, line, &field[1..], received);
     }
     if field.len() == 1 {
-        return run_letter(line, first, received);
+        return run_letter(rt, line, first, received);
     }
-    run_hex(limits, line, field, received)
+    run_hex(rt, limits, line, field, received)
 }
 
 // `A` or `D`.
-fn run_letter(line: Line, letter: u8, received: &[u8; 256]) -> Made {
+fn run_letter(rt: &impl Print, line: Line, letter: u8, received: &[u8; 256]) -> io::Result<Made> {
     match letter {
-        b'A' => run_still(line.ask(), received),
-        b'D' => run_still(line.drained(), received),
-        _ => Made::Unreadable,
+        b'A' => run_still(rt, line.ask(), received),
+        b'D' => run_still(rt, line.drained(), received),
+        _ => Ok(Made::Unreadable),
     }
 }
 
 // A call that left the line so. By itself it puts nothing out, and tells and remarks nothing: what comes of it, settling does.
-fn run_still(line: Line, received: &[u8; 256]) -> Made {
+fn run_still(rt: &impl Print, line: Line, received: &[u8; 256]) -> io::Result<Made> {
     let step = Step {
         line,
         out: Out::Nothing,
         told: Told::Nothing,
         remark: Remark::Nothing,
     };
-    done(settled(begun(line), step, received))
+    done(rt, settled(rt, begun(line), step, received)?)
 }
 
 // `T` and a number.
-fn run_ticks(limits: Limits, line: Line, count: &[u8], received: &[u8; 256]) -> Made {
+fn run_ticks(
+    rt: &impl Print,
+    limits: Limits,
+    line: Line,
+    count: &[u8],
+    received: &[u8; 256],
+) -> io::Result<Made> {
     match text::decimal(count) {
-        Field::Value(n) => done(tick_on(limits, begun(line), n, received)),
-        Field::Unreadable => Made::Unreadable,
+        Field::Value(n) => done(rt, tick_on(rt, limits, begun(line), n, received)?),
+        Field::Unreadable => Ok(Made::Unreadable),
     }
 }
 
 // So many ticks.
-fn tick_on(limits: Limits, before: Trial, count: u16, received: &[u8; 256]) -> Trial {
+fn tick_on(
+    rt: &impl Print,
+    limits: Limits,
+    before: Trial,
+    count: u16,
+    received: &[u8; 256],
+) -> io::Result<Trial> {
     let mut trial = before;
     let mut i: u16 = 0;
     while i < count {
         let line = trial.line;
-        trial = settled(trial, line.tick(limits), received);
+        trial = settled(rt, trial, line.tick(limits), received)?;
         i += 1;
     }
-    trial
+    Ok(trial)
 }
 
 // Bytes.
-fn run_hex(limits: Limits, line: Line, field: &[u8], received: &mut [u8; 256]) -> Made {
+fn run_hex(
+    rt: &impl Print,
+    limits: Limits,
+    line: Line,
+    field: &[u8],
+    received: &mut [u8; 256],
+) -> io::Result<Made> {
     let mut bytes = [0u8; 5000];
     match text::some_bytes(field, &mut bytes) {
-        Field::Value(n) => done(hear(limits, begun(line), text::first(&bytes, n), received)),
-        Field::Unreadable => Made::Unreadable,
+        Field::Value(n) => done(
+            rt,
+            hear(rt, limits, begun(line), text::first(&bytes, n), received)?,
+        ),
+        Field::Unreadable => Ok(Made::Unreadable),
     }
 }
 
 // Each of the bytes.
-fn hear(limits: Limits, before: Trial, bytes: &[u8], received: &mut [u8; 256]) -> Trial {
+fn hear(
+    rt: &impl Print,
+    limits: Limits,
+    before: Trial,
+    bytes: &[u8],
+    received: &mut [u8; 256],
+) -> io::Result<Trial> {
     let mut trial = before;
     let mut i: usize = 0;
     while i < bytes.len() {
         let line = trial.line;
         let step = line.byte(limits, bytes[i], received);
-        trial = settled(trial, step, received);
+        trial = settled(rt, trial, step, received)?;
         i += 1;
     }
-    trial
+    Ok(trial)
 }
 
 // The line before the calls of a field.
@@ -181,37 +214,37 @@ fn begun(line: Line) -> Trial {
 }
 
 // The line after the calls of a field.
-fn done(trial: Trial) -> Made {
+fn done(rt: &impl Print, trial: Trial) -> io::Result<Made> {
     if !trial.shown {
-        show::text(b"-");
+        show::text(rt, b"-")?;
     }
     let line = trial.line;
-    Made::Line(line)
+    Ok(Made::Line(line))
 }
 
 // The end of a call: the line settles, and what the call put out, told and remarked is shown.
-fn settled(before: Trial, step: Step, received: &[u8; 256]) -> Trial {
+fn settled(rt: &impl Print, before: Trial, step: Step, received: &[u8; 256]) -> io::Result<Trial> {
     let called = step.line;
     let last = called.settle();
     let line = last.line;
     if still(step) {
         if still(last) {
-            return Trial {
+            return Ok(Trial {
                 line,
                 shown: before.shown,
-            };
+            });
         }
     }
     if before.shown {
-        show::text(b",");
+        show::text(rt, b",")?;
     }
-    show_out(step);
-    show_out(last);
-    show_told(step, received);
-    show_remark(step);
-    show_told(last, received);
-    show_remark(last);
-    Trial { line, shown: true }
+    show_out(rt, step)?;
+    show_out(rt, last)?;
+    show_told(rt, step, received)?;
+    show_remark(rt, step)?;
+    show_told(rt, last, received)?;
+    show_remark(rt, last)?;
+    Ok(Trial { line, shown: true })
 }
 
 // Whether a step put nothing out, and told and remarked nothing.
@@ -237,49 +270,49 @@ fn quiet(step: Step) -> bool {
 }
 
 // What a step put out.
-fn show_out(step: Step) {
+fn show_out(rt: &impl Print, step: Step) -> io::Result<()> {
     let out = step.out;
     match out {
-        Out::Nothing => (),
-        Out::Code(code) => show::byte(code),
-        Out::Block => show::text(b"*"),
+        Out::Nothing => Ok(()),
+        Out::Code(code) => show::byte(rt, code),
+        Out::Block => show::text(rt, b"*"),
     }
 }
 
 // What a step told.
-fn show_told(step: Step, received: &[u8; 256]) {
+fn show_told(rt: &impl Print, step: Step, received: &[u8; 256]) -> io::Result<()> {
     let told = step.told;
     match told {
-        Told::Nothing => (),
-        Told::PutOut => (), // what it put out shows it
-        Told::Sent => show::text(b"/sent"),
-        Told::Failed => show::text(b"/failed"),
-        Told::Up(n) => show_block(n, received),
+        Told::Nothing => Ok(()),
+        Told::PutOut => Ok(()), // what it put out shows it
+        Told::Sent => show::text(rt, b"/sent"),
+        Told::Failed => show::text(rt, b"/failed"),
+        Told::Up(n) => show_block(rt, n, received),
     }
 }
 
 // What a step remarked.
-fn show_remark(step: Step) {
+fn show_remark(rt: &impl Print, step: Step) -> io::Result<()> {
     let remark = step.remark;
     match remark {
-        Remark::Nothing => (),
-        Remark::GaveWay => show::text(b"/gave-way"),
-        Remark::NoLength => show_note(remark),
-        Remark::Gap => show_note(remark),
-        Remark::Bad(_) => show_note(remark),
+        Remark::Nothing => Ok(()),
+        Remark::GaveWay => show::text(rt, b"/gave-way"),
+        Remark::NoLength => show_note(rt, remark),
+        Remark::Gap => show_note(rt, remark),
+        Remark::Bad(_) => show_note(rt, remark),
     }
 }
 
 // A block that came: its N bytes, which are the first N received.
-fn show_block(n: u8, received: &[u8; 256]) {
+fn show_block(rt: &impl Print, n: u8, received: &[u8; 256]) -> io::Result<()> {
     let all: &[u8] = received;
     let end = n as usize;
-    show::text(b"/up=");
-    show::hex(&all[0..end]);
+    show::text(rt, b"/up=")?;
+    show::hex(rt, &all[0..end])
 }
 
 // The note of a NAK.
-fn show_note(remark: Remark) {
-    show::text(b"/");
-    show::decimal(remark.note() as usize);
+fn show_note(rt: &impl Print, remark: Remark) -> io::Result<()> {
+    show::text(rt, b"/")?;
+    show::decimal(rt, remark.note() as usize)
 }

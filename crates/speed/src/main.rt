@@ -18,47 +18,54 @@ mod loops;
 mod ready;
 mod text;
 
-use libc::STDOUT_FILENO;
+ghost use Rattle.std.specs.Prelude.{◌≤◌, length};
+
+use std::io;
+use std::rt::Env;
 use text::Turns;
 
 // A program has no more to say of a word that it can't read.
-fn unreadable() {
-    io::write_all(STDOUT_FILENO, b"?");
+fn unreadable(rt: &impl Print) -> io::Result<()> {
+    rt.write_all(b"?")
 }
 
-fn run(word: &[u8], turns: u64) {
+fn run(rt: &impl Print, word: &[u8], turns: u64) -> io::Result<()> {
     if text::is_same(word, b"body") {
-        io::print_decimal(STDOUT_FILENO, loops::body(turns));
-        return;
+        return rt.print(loops::body(turns));
     }
     if text::is_same(word, b"dropped") {
-        io::print_decimal(STDOUT_FILENO, loops::dropped(turns));
-        return;
+        return rt.print(loops::dropped(turns));
     }
     if text::is_same(word, b"idle") {
-        io::print_decimal(STDOUT_FILENO, loops::idle(turns));
-        return;
+        return rt.print(loops::idle(turns));
     }
     if text::is_same(word, b"waiting") {
-        io::print_decimal(STDOUT_FILENO, loops::waiting(turns));
-        return;
+        return rt.print(loops::waiting(turns));
     }
     if text::is_same(word, b"copy") {
-        io::print_decimal(STDOUT_FILENO, loops::copies(turns));
-        return;
+        return rt.print(loops::copies(turns));
     }
-    unreadable();
+    unreadable(rt)
 }
 
-// An argument that is missing or too long is none: `os::arg` answers 0 for it.
-fn main() {
+// Copies an argument to the start of `word`, and gives back its length. One that is missing or too long is none: 0.
+fn argument(rt: &impl Env, at: usize, word: &mut [u8]) -> usize
+    ensures { result ≤ length word.new }
+{
+    match rt.arg(at, word) {
+        Ok(length) => length,
+        Err(_) => 0,
+    }
+}
+
+fn main(rt: HostRuntime) -> io::Result<()> {
     let mut word = [0u8; 16];
     let mut digits = [0u8; 16];
-    let length = os::arg(1, &mut word);
-    let count = os::arg(2, &mut digits);
+    let length = argument(&rt, 1, &mut word);
+    let count = argument(&rt, 2, &mut digits);
     match text::decimal(&digits[..count]) {
-        Turns::Count(turns) => run(&word[..length], turns),
-        Turns::Unreadable => unreadable(),
+        Turns::Count(turns) => run(&rt, &word[..length], turns)?,
+        Turns::Unreadable => unreadable(&rt)?,
     }
-    io::write_all(STDOUT_FILENO, b"\n");
+    rt.write_all(b"\n")
 }

@@ -1,0 +1,6 @@
+-- `joined` meets its contract.
+use borrow.Author.Rules.{rules}
+use Rattle.bench.proofs.run.joined.Goals as goal
+
+pub returns : goal.returns
+returns c = rw (c.outcome_number.ensures, c.note_number.ensures)
