@@ -170,7 +170,7 @@ def squeezed(text):
 def verbatim(part, base, changed):
     """Whether the edit's own pairs, as they are, make the changed text."""
     for old, new in part.pairs:
-        if base.count(old) != 1:
+        if base.count(old) != 1 or re.search(r'[\w)] \.\w', new):
             return False
         base = base.replace(old, new)
     return squeezed(base) == squeezed(changed)
