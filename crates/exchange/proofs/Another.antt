@@ -3,7 +3,7 @@
 -- Assumes nothing.
 use Prim.Native.Nat.{ℕ}
 use mathlib.Core.Path.{◌≡◌, refl, sym, ap, subst, ◌∙◌}
-use mathlib.Core.Bool.{true, false, false≢true, true≢false}
+use mathlib.Core.Bool.{true, false≢true, true≢false}
 use mathlib.Core.List.{List}
 use mathlib.Core.Logic.{◌⊎◌, inl, inr, ◌≢◌}
 use lib.Dec.{eqb}
@@ -28,7 +28,7 @@ use Rattle.exchange.specs.declared.Exchange.{Exchange}
 use Rattle.exchange.specs.declared.Changed.{Changed}
 use Rattle.exchange.specs.declared.Asked.{Asked}
 use Rattle.exchange.specs.declared.Asked.TheVariants.{Taken, Refused}
-use Rattle.exchange.proofs.Starting.{Box, still, over, begins}
+use Rattle.exchange.proofs.Starting.{still, over, begins}
 use Rattle.exchange.proofs.BeingSent.{sent_none, failed_none, request_sends, sending_ends}
 use Rattle.exchange.proofs.Numbering.{Moves, last_answered, call_moves, begun_new}
 use Rattle.exchange.proofs.Runs.{Sound, four_places, sound_on, run_reached}

@@ -35,7 +35,7 @@ use Rattle.exchange.specs.Judge.{judge_of}
 use Rattle.exchange.specs.Request.{sending_by, Request, primary, reply, freeing_own, freeing_incoming, answer_of}
 use Rattle.exchange.specs.Range.{sending_in_range, SendingFits}
 use Rattle.exchange.specs.Reading.{incoming_reading, header_by, own_reading}
-use Rattle.exchange.specs.Refusals.{Opened, Replied}
+use Rattle.exchange.specs.Refusals.{Opened}
 use Rattle.exchange.specs.Rules.{Fours}
 use Rattle.exchange.specs.BeingSent.{sending_after, ReportBegins}
 use Rattle.exchange.specs.Reports.{same_message}

@@ -3,7 +3,7 @@
 -- hang on the incoming places. Assumes nothing.
 use Prim.Native.Nat.{ℕ, zero, suc, ◌+◌, ◌≤◌, ◌<◌}
 use mathlib.Core.Path.{◌≡◌, refl, sym, ap, subst, ◌∙◌}
-use mathlib.Core.Bool.{true, false, false≢true}
+use mathlib.Core.Bool.{false, false≢true}
 use mathlib.Core.List.{[]}
 use mathlib.Core.Logic.{◌≢◌}
 use native.Mathlib.Omega.{arith}

@@ -1,13 +1,12 @@
 -- Reports of stream 9 (E4 R1-7.6; 02, request 2: "Tell the host what was thrown out"): what a report is on the line, when one starts, and when
 -- it waits. Which calls cause one is said where these are: `judge_of` (specs/Judge.antt), `tick_of` (specs/Tick.antt).
-use Rattle.std.specs.Prelude.{ℕ, Bool, true, false, cond, not, ◌&&◌, List, [], ◌∷◌, eqb, take}
+use Rattle.std.specs.Prelude.{ℕ, Bool, true, false, cond, not, ◌&&◌, List, ◌∷◌, eqb, take}
 use Rattle.header.specs.declared.header.Header.{Header}
 use Rattle.settings.specs.declared.terms.Terms.{Terms}
 use Rattle.place.specs.declared.Own.{Own}
 use Rattle.table.specs.Number.{next_number}
 use Rattle.reports.specs.Reports.{added, oldest, without_oldest, showing}
 use Rattle.reports.specs.declared.Report.{Report}
-use Rattle.reports.specs.declared.Reports.{Reports}
 use Rattle.exchange.specs.Request.{sending_by}
 use Rattle.exchange.specs.declared.Sending.{Sending}
 use Rattle.exchange.specs.declared.Sending.TheVariants as sending

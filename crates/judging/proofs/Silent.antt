@@ -2,7 +2,7 @@
 -- nothing.
 use Prim.Native.Nat.{ℕ}
 use mathlib.Core.Path.{◌≡◌, refl, sym, ap, ◌∙◌}
-use mathlib.Core.Bool.{true, false, false≢true}
+use mathlib.Core.Bool.{false, false≢true}
 use mathlib.Core.List.{List}
 use Rattle.settings.specs.declared.terms.Terms.{Terms}
 use Rattle.exchange.specs.Judge.{Judging, judging, caused_by, reporting, box_behind}

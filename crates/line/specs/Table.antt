@@ -1,6 +1,6 @@
 -- Closed runs: the handshake codes as bytes on the wire, the listing of 01 as the line sees it, and the row of 01's proved table
 -- that is the line's, "804 ticks for RTY 3 and T2 100".
-use Rattle.std.specs.Prelude.{ℕ, ◌<◌, ◌≡◌, List, [], ◌∷◌, ◌++◌, Bool, false, replicate}
+use Rattle.std.specs.Prelude.{ℕ, ◌≡◌, List, [], ◌∷◌, ◌++◌, Bool, false, replicate}
 use Rattle.std.proofs.Common.{lit<}
 use Rattle.line.specs.Codes.{bytes_out, note_of}
 use Rattle.settings.specs.Limits.{limits_of}

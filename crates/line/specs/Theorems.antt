@@ -8,7 +8,7 @@ use Rattle.settings.specs.Limits.{limits_of}
 use Rattle.settings.specs.Theorems.{Fits}
 use Rattle.line.specs.Line.{under_way, busy, byte_of, tick_of, drained_of, ask_of, withdraw_of, settle_of}
 use Rattle.line.specs.Range.{line_in_range, LineFits}
-use Rattle.line.specs.History.{Call, byte, tick, drained, ask, withdraw, settle, on_ask, comes, none, enquired, left, ours_at, theirs_at, begins, puts, Track, called, answered, next, history}
+use Rattle.line.specs.History.{Call, byte, settle, on_ask, comes, none, enquired, left, ours_at, theirs_at, begins, puts, Track, called, answered, next, history}
 use Rattle.line.specs.declared.phase.Phase.{Phase}
 use Rattle.line.specs.declared.phase.Phase.TheVariants.{Idle, WaitEot, Draining, WaitAck, WaitLength, Body, Silence}
 use Rattle.line.specs.declared.phase.Fault.TheVariants.{Length, Sum}

@@ -1,7 +1,7 @@
 -- When a message is being sent no more, exactly (01, "The line"; 02, request 1: "If the reply's first block is kept, or breaks the reply,
 -- while that block is held, the held block is withdrawn and counts as sent"), over any calls from a start, refused ones among them, and what
 -- leaves in the call in which a reply ends it. Each proof is in `proofs/withdrawn/`.
-use Rattle.std.specs.Prelude.{ℕ, ◌<◌, ◌≡◌, true, false, List, [], ◌∷◌, ◌↔◌, ◌≢◌}
+use Rattle.std.specs.Prelude.{ℕ, ◌<◌, ◌≡◌, true, List, [], ◌∷◌, ◌↔◌, ◌≢◌}
 use Rattle.settings.specs.declared.limits.Limits.{Limits}
 use Rattle.line.specs.Codes.{ENQ, ACK}
 use Rattle.line.specs.History.{none}

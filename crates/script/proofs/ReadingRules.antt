@@ -1,7 +1,7 @@
 -- What is printed for a number says it, and reads back. Assumes nothing.
-use Prim.Native.Nat.{ℕ, ◌+◌, ◌*◌, ◌/◌}
-use mathlib.Core.Path.{◌≡◌, subst}
-use mathlib.Core.List.{List, []}
+use Prim.Native.Nat.{ℕ}
+use mathlib.Core.Path.{subst}
+use mathlib.Core.List.{[]}
 use native.Mathlib.Omega.{arith}
 use Rattle.text.specs.Theorems.{Says}
 use Rattle.text.proofs.NumberRules.{number_exactly, says_one, says_behind}

@@ -4,7 +4,7 @@ use Rattle.std.proofs.Common.{sym, ◌∙◌}
 use Rattle.wire.specs.Determined.{Determined}
 use Rattle.wire.proofs.memory.put.Reads as put_reads
 use Rattle.wire.proofs.memory.put.Kinds as put_kinds
-use Rattle.wire.proofs.number.pair.Reads as Pair-reads
+use Rattle.wire.proofs.number.pair.Reads as pair_reads
 use Rattle.wire.proofs.number.pair.Kinds as pair_kinds
 use Rattle.wire.proofs.number.halves.Reads as halves_reads
 use Rattle.wire.proofs.number.halves.Kinds as halves_kinds
@@ -17,7 +17,7 @@ use Rattle.wire.proofs.sum.sum_with.Kinds as sum_with_kinds
 use Rattle.wire.proofs.sum.checksum.Reads as checksum_reads
 use Rattle.wire.proofs.sum.checksum.Kinds as checksum_kinds
 
-pub pair_determined : Determined 0 pair_kinds.ps pair_kinds.r Pair-reads.Asked Pair-reads.Post (λ κs r s. r)
+pub pair_determined : Determined 0 pair_kinds.ps pair_kinds.r pair_reads.Asked pair_reads.Post (λ κs r s. r)
 pair_determined κs a = (tt, λ x y s t p q. p ∙ sym q)
 
 pub halves_determined : Determined 0 halves_kinds.ps halves_kinds.r halves_reads.Asked halves_reads.Post (λ κs r s. r)

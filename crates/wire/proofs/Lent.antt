@@ -1,7 +1,7 @@
 -- Bytes put into lent memory (`specs/Lent.antt`): what stands there then, and what is as it was. Assumes nothing.
-use Rattle.std.proofs.Common.{◌≡◌, ℕ, ◌+◌, ◌-◌, ◌<◌, ◌≤◌, ltb, List, [], ◌++◌, length, get_or, take, drop, sym, refl, ap, ◌∙◌, append_assoc, append-nil, add-zero, arith, length-append, length-drop, length-take-le, get_or-drop, take_all, get_or-take, take-take, drop-drop, take_at, drop_at, ltb-false, le-ltb, lt-ltb, le-leb}
+use Rattle.std.proofs.Common.{◌≡◌, ℕ, ◌+◌, ◌-◌, ◌<◌, ◌≤◌, ltb, List, ◌++◌, length, get_or, take, drop, sym, refl, ap, ◌∙◌, append_assoc, add-zero, arith, length-append, length-drop, length-take-le, get_or-drop, get_or-take, take-take, drop-drop, take_at, drop_at, ltb-false, le-ltb, lt-ltb, le-leb}
 use native.Mathlib.Nat.{sub_self}
-use lib.Seq.{take-length, take-append-le, drop-length, drop-append-add, drop-append-le}
+use lib.Seq.{take-append-le, drop-append-add, drop-append-le}
 use borrow.Author.Tests.{lt-leb}
 use borrow.Rule.Slice.PartMut.{put_mid}
 use Rattle.wire.specs.Bytes.{part}

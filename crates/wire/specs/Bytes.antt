@@ -1,5 +1,5 @@
 -- Bytes in a list, and numbers made of two or four of them.
-use Rattle.std.specs.Prelude.{ℕ, ◌+◌, ◌-◌, ◌*◌, ◌/◌, ◌%◌, ◌<◌, List, [], ◌∷◌, slice_index, slice_range}
+use Rattle.std.specs.Prelude.{ℕ, ◌+◌, ◌*◌, ◌/◌, ◌%◌, ◌<◌, List, [], ◌∷◌, slice_index, slice_range}
 
 -- every element is a byte
 pub record Bytes (l : List ℕ) : Type 0 where

@@ -1,4 +1,4 @@
-use Rattle.std.proofs.Common.{sym, ◌∙◌, rules}
+use Rattle.std.proofs.Common.{sym, ◌∙◌}
 use Rattle.block.proofs.Reading.{reads_as}
 use Rattle.codec.proofs.block_data.Goals as goal
 

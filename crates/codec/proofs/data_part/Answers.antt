@@ -1,4 +1,4 @@
-use Rattle.std.proofs.Common.{refl, rules}
+use Rattle.std.proofs.Common.{refl}
 use Rattle.wire.specs.Bytes.{part}
 use Rattle.codec.proofs.data_part.Goals as goal
 

@@ -1,4 +1,4 @@
-use Rattle.std.proofs.Common.{sym, ◌∙◌, rules}
+use Rattle.std.proofs.Common.{sym, ◌∙◌}
 use Rattle.block.specs.Block.{read_of}
 use Rattle.block.proofs.Reading.{good_length, read_short}
 use Rattle.codec.proofs.read_block.Goals as goal

@@ -1,4 +1,4 @@
-use Rattle.std.proofs.Common.{sym, ◌∙◌, rules, eq-eqb, ne_eqb}
+use Rattle.std.proofs.Common.{sym, ◌∙◌, eq-eqb, ne_eqb}
 use Rattle.wire.specs.Bytes.{part}
 use Rattle.header.specs.Header.{header_of}
 use Rattle.block.specs.Block.{read_sized, sums_agree}

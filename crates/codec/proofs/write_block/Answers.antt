@@ -1,4 +1,4 @@
-use Rattle.std.proofs.Common.{sym, ap, ◌∙◌, arith, rules, le-ltb, lt-ltb}
+use Rattle.std.proofs.Common.{sym, ap, ◌∙◌, arith, le-ltb, lt-ltb}
 use Rattle.block.specs.Block.{output_short, refused_write, taken_write, write_of, writing}
 use Rattle.block.specs.declared.Written.TheVariants.{Bytes}
 use Rattle.block.proofs.Reading.{good_length}

@@ -1,6 +1,5 @@
 use borrow.Author.Tests.{eq-eqb, ne_eqb}
 use Rattle.cut.specs.Blocks.{block_count}
-use borrow.Author.Rules.{rules}
 use Rattle.cut.proofs.blocks_in.Goals as goal
 
 pub returns-then-length-eq0 : goal.returns-then-length-eq0

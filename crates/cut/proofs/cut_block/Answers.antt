@@ -3,7 +3,6 @@ use Rattle.cut.specs.Blocks.{cut_of, has_block, header_at, part_length}
 use Rattle.cut.proofs.Counts.{count_is_fewest}
 use native.Mathlib.Omega.{arith}
 use mathlib.Core.Path.{◌∙◌}
-use borrow.Author.Rules.{rules}
 use Rattle.cut.proofs.cut_block.Goals as goal
 
 pub returns-then-k-lt1 : goal.returns-then-k-lt1

@@ -3,7 +3,7 @@
 -- no call. Assumes nothing.
 use Prim.Native.Nat.{ℕ, ◌<◌}
 use mathlib.Core.Path.{◌≡◌, refl, sym, ap, subst, ◌∙◌}
-use mathlib.Core.Bool.{Bool, true, false, cond, not}
+use mathlib.Core.Bool.{Bool, true, false, not}
 use mathlib.Core.List.{List, [], ◌∷◌}
 use mathlib.Core.Logic.{inl, inr}
 use Rattle.wire.proofs.Choice.{either}
@@ -14,7 +14,6 @@ use Rattle.line.specs.declared.step.Told.{Told}
 use Rattle.line.specs.declared.step.Told.TheVariants as told
 use Rattle.exchange.specs.Reports.{same_message}
 use Rattle.exchange.specs.Request.{Request, lends, sending_by, is_sending}
-use Rattle.exchange.specs.BeingSent.{ReportBegins}
 use Rattle.exchange.specs.declared.Asked.TheVariants as asked
 use Rattle.exchange.proofs.BeingSent.{request_sends}
 use Rattle.exchange.proofs.Unreported.{idle}
@@ -23,7 +22,7 @@ use Rattle.exchange.proofs.Runs.{Sound}
 use Rattle.exchange.proofs.Another.{Numbered}
 use Rattle.exchange.specs.declared.Sending.{Sending}
 use Rattle.exchange.specs.declared.Exchange.{Exchange}
-use Rattle.link.specs.Run.{has_next, passing}
+use Rattle.link.specs.Run.{passing}
 use Rattle.link.specs.History.{Call, byte, tick, drained, request, step_in, heard_by, exchange_in, couriers, settling, settles, on_line}
 use Rattle.link.specs.declared.Link.{Link}
 use Rattle.link.proofs.Cases.{answering}

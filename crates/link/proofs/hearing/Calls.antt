@@ -23,7 +23,7 @@ use Rattle.exchange.proofs.Same.{message_same}
 use Rattle.link.specs.Answer.{accepted}
 use Rattle.link.specs.Run.{block_bytes, hears, hearing}
 use Rattle.link.specs.Reading.{sending_of, message_of}
-use Rattle.link.specs.History.{Call, byte, tick, drained, request, Room, step_in, settling, settles, on_line, came_to, lent_room, Track, line_track, limits_in, terms_in, Made, answered, next, track}
+use Rattle.link.specs.History.{Call, byte, tick, drained, request, Room, step_in, settling, settles, on_line, came_to, lent_room, Track, line_track, limits_in, terms_in, Made, answered, next}
 use Rattle.link.specs.Inside.{Reached}
 use Rattle.link.specs.Door.{bytes_left, line_bytes, SendTimer, watch_of, Watch, AtDoor, made}
 use Rattle.link.specs.Verdicts.{Accepted}

@@ -9,7 +9,6 @@ use Rattle.cut.specs.Blocks.{most_blocks}
 use Rattle.wire.proofs.Choice.{chosen}
 use Rattle.settings.proofs.Panels.{in_between}
 use Rattle.settings.proofs.Taking.{fits}
-use Rattle.settings.specs.declared.limits.Taken.{Taken}
 use Rattle.line.specs.Range.{line_in_range}
 use Rattle.line.specs.Theorems.{Reached as LineReached}
 use Rattle.line.proofs.Ranges.{reached_in_range as line_reached_in_range}

@@ -19,7 +19,7 @@ use Rattle.exchange.specs.declared.Sending.{Sending}
 use Rattle.link.specs.Run.{block_in}
 use Rattle.link.specs.History.{Track, terms_in, lent_room}
 use Rattle.link.specs.Inside.{Reached}
-use Rattle.link.specs.Reporting.{reporter_seen, report_bytes, report_line, ReportBytes, LastBlocksHeader}
+use Rattle.link.specs.Reporting.{report_bytes, report_line, ReportBytes, LastBlocksHeader}
 use Rattle.link.specs.declared.Settings.{Settings}
 use Rattle.link.proofs.inside.Reached.{settings_stay}
 use Rattle.link.proofs.inside.Tens.{tens_inside}

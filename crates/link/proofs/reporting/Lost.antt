@@ -4,7 +4,6 @@ use Prim.Native.Nat.{ℕ, ◌+◌, ◌≤◌, ◌<◌}
 use mathlib.Core.Path.{◌≡◌, refl, sym, ap, subst, ◌∙◌}
 use mathlib.Core.Bool.{Bool, true, false, cond, ◌||◌, true≢false}
 use mathlib.Core.List.{List, [], ◌∷◌}
-use mathlib.Core.Logic.{◌≢◌}
 use native.Mathlib.Omega.{arith}
 use lib.Dec.{eqb}
 use lib.ListN.{length}
@@ -41,7 +40,7 @@ use Rattle.exchange.proofs.Reporting.{AllKept, kept_on, kept_fresh, block_six, p
 use Rattle.exchange.proofs.Runs.{Each, none, one_more, Sound, four_places, sound_on}
 use Rattle.exchange.proofs.Tallying.{Counts, none_more, note_counts, places_count, ends_counts, Turned, still, over, begun, block_turns, acked_turns, failed_turns, tick_turns}
 use Rattle.link.specs.Reading.{message_of}
-use Rattle.link.specs.History.{Made, Track, exchange_track, terms_in, on_exchange_in, next, track}
+use Rattle.link.specs.History.{Made, Track, exchange_track, terms_in, on_exchange_in, next}
 use Rattle.link.specs.Inside.{Reached}
 use Rattle.link.specs.Verdicts.{Among, here, Tells}
 use Rattle.link.specs.Device as device

@@ -52,7 +52,7 @@ use Rattle.link.proofs.inside.Courier.{clash, begun_at, goes_on_by, Goes, heard_
 use Rattle.link.proofs.inside.Agrees.{outgoing_of_lem, agrees}
 use Rattle.link.proofs.door.OneCall.{is_sent}
 use Rattle.link.proofs.device.Told.{ack_came, ack_tells}
-use Rattle.link.proofs.sends.Posts.{over_sending, seen, message_goes}
+use Rattle.link.proofs.sends.Posts.{over_sending, message_goes}
 
 -- ---- what was told, and what the onlooker at the door heard
 
@@ -215,13 +215,13 @@ module _ (F : Type 0) where
   held_next t w s g m =
       let c = terms_in t in
       let x = exchange_track t (lent t m) in
-      let Goes-so = message_goes t w s.message m.call m.room m.out in
+      let goes_so = message_goes t w s.message m.call m.room m.out in
       let g' = sound_inside t w in
       record {
         carries =
-            three_equal (Carries F) (sym (same_terms t m)) (goes t m) Goes-so
+            three_equal (Carries F) (sym (same_terms t m)) (goes t m) goes_so
             (carries_all F c x s.message (on_exchange_in t m) g' g.carries);
-        text = three_equal TextIs {b = (next t m).joined} (goes t m) refl Goes-so (text_all c x s.message (on_exchange_in t m) g' g.text);
+        text = three_equal TextIs {b = (next t m).joined} (goes t m) refl goes_so (text_all c x s.message (on_exchange_in t m) g' g.text);
         due = call_moves t w s.block g.due m.call (lent t m) m.out;
       }
 

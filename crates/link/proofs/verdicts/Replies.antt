@@ -185,13 +185,13 @@ module _ (t : Track) (p : ℕ) where
 
 pub ready_places : ReadyPlaces
 ready_places t p =
-    let Read-of = reply_read t.link.exchange p in
+    let read_here = reply_read t.link.exchange p in
     record {
       not_ready_lem = λ k. (
         λ n. reads_ready t p n k,
         ⊎_elim (λ e. open_stage t p (here t p).stage refl (sym (reads t p).complete ∙ e))
-            (λ e. way_stage t p (here t p).stage refl (sym (ap is_onway Read-of.stands) ∙ ap (λ (r : ReplyStage). is_onway (way_of r)) e)),
+            (λ e. way_stage t p (here t p).stage refl (sym (ap is_onway read_here.stands) ∙ ap (λ (r : ReplyStage). is_onway (way_of r)) e)),
       );
       not_wanted = λ there. let e = ap (λ (h : Header). h.w) ((reads t p).header there) in (λ n. e ∙ n, λ n. sym e ∙ n);
-      replied = (reads_replied t p, λ e. ended_stage t p (here t p).stage refl (sym Read-of.ended ∙ e));
+      replied = (reads_replied t p, λ e. ended_stage t p (here t p).stage refl (sym read_here.ended ∙ e));
     }

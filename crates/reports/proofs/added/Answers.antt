@@ -1,7 +1,6 @@
 -- `added` meets its contract.
 use borrow.Author.Tests.{lt-ltb, le-ltb}
 use Rattle.reports.specs.Reports.{added}
-use borrow.Author.Rules.{rules}
 use Rattle.reports.proofs.added.Goals as goal
 
 pub returns-then-count-lt-MOST_WAITING : goal.returns-then-count-lt-MOST_WAITING

@@ -1,7 +1,6 @@
 -- `less_one` meets its contract.
 use borrow.Author.Tests.{eq-eqb, ne_eqb}
 use Rattle.reports.specs.Reports.{less_one}
-use borrow.Author.Rules.{rules}
 use Rattle.reports.proofs.less_one.Goals as goal
 
 pub returns-then-count-eq0 : goal.returns-then-count-eq0

@@ -1,5 +1,4 @@
 -- `none` meets its contract.
-use borrow.Author.Rules.{rules}
 use Rattle.reports.proofs.none.Goals as goal
 
 pub returns : goal.returns

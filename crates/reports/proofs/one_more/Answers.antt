@@ -1,7 +1,6 @@
 -- `one_more` meets its contract.
 use borrow.Author.Tests.{lt-ltb, le-ltb}
 use Rattle.reports.specs.Reports.{one_more}
-use borrow.Author.Rules.{rules}
 use Rattle.reports.proofs.one_more.Goals as goal
 
 pub returns-then-dropped-lt-MOST_DROPPED : goal.returns-then-dropped-lt-MOST_DROPPED

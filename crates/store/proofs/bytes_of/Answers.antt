@@ -1,6 +1,5 @@
 use mathlib.Core.Path.{sym, ◌∙◌}
 use native.Mathlib.Omega.{arith}
-use borrow.Author.Rules.{rules}
 use Rattle.wire.specs.Bytes.{part}
 use Rattle.room.specs.Room.{bytes_at, bytes_in}
 use Rattle.room.proofs.Areas.{tested, tested_end}

@@ -1,4 +1,3 @@
-use borrow.Author.Rules.{rules}
 use Rattle.room.specs.Room.{has_place}
 use Rattle.store.proofs.has_place.Goals as goal
 

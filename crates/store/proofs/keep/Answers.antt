@@ -1,7 +1,6 @@
 use Prim.Native.Nat.{ℕ, ◌+◌}
 use mathlib.Core.Path.{sym, ap, ◌∙◌}
 use native.Mathlib.Omega.{arith}
-use borrow.Author.Rules.{rules}
 use Rattle.wire.specs.Lent.{splice}
 use Rattle.wire.proofs.Lent.{copied}
 use Rattle.room.specs.Room.{filled, kept_in}

@@ -1,6 +1,5 @@
 use mathlib.Core.Path.{sym, ◌∙◌}
 use borrow.Author.Tests.{eq-eqb, ne_eqb}
-use borrow.Author.Rules.{rules}
 use Rattle.room.specs.Room.{lies, whole_room}
 use Rattle.store.proofs.lies.Goals as goal
 

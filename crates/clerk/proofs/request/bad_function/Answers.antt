@@ -1,7 +1,6 @@
 -- `request::bad_function` meets its contract.
 use borrow.Author.Tests.{eq-eqb, ne_eqb}
 use Rattle.exchange.specs.Request.{bad_function}
-use borrow.Author.Rules.{rules}
 use Rattle.clerk.proofs.request.bad_function.Goals as goal
 
 pub returns-then-function-eq0 : goal.returns-then-function-eq0

@@ -1,6 +1,5 @@
 -- `request::claimed_at` meets its contract.
 use Rattle.exchange.specs.Request.{claimed_at}
-use borrow.Author.Rules.{rules}
 use Rattle.clerk.proofs.request.claimed_at.Goals as goal
 
 pub returns : goal.returns

@@ -1,7 +1,6 @@
 -- `request::not_ready` meets its contract.
 use mathlib.Core.Path.{sym, ◌∙◌}
 use Rattle.exchange.specs.Request.{not_ready}
-use borrow.Author.Rules.{rules}
 use Rattle.clerk.proofs.request.not_ready.Goals as goal
 
 pub returns-then-is_complete : goal.returns-then-is_complete

@@ -3,7 +3,6 @@ use mathlib.Core.Path.{sym, ◌∙◌}
 use borrow.Author.Tests.{ltb-false}
 use Rattle.wire.specs.Message.{message_limit}
 use Rattle.exchange.specs.Request.{open_of, refused, data_long}
-use borrow.Author.Rules.{rules}
 use Rattle.clerk.proofs.request.open.Goals as goal
 
 pub returns-then-bad_primary : goal.returns-then-bad_primary

@@ -1,7 +1,6 @@
 -- `request::open_free` meets its contract.
 use mathlib.Core.Path.{sym, ◌∙◌}
 use Rattle.exchange.specs.Request.{open_free, refused}
-use borrow.Author.Rules.{rules}
 use Rattle.clerk.proofs.request.open_free.Goals as goal
 
 pub returns-in-At : goal.returns-in-At

@@ -1,7 +1,6 @@
 -- `request::release_incoming` meets its contract.
 use mathlib.Core.Path.{sym, ◌∙◌}
 use Rattle.exchange.specs.Request.{release_incoming}
-use borrow.Author.Rules.{rules}
 use Rattle.clerk.proofs.request.release_incoming.Goals as goal
 
 pub returns-then-not_ready : goal.returns-then-not_ready

@@ -1,7 +1,6 @@
 -- `request::release_own` meets its contract.
 use mathlib.Core.Path.{sym, ◌∙◌}
 use Rattle.exchange.specs.Request.{release_own}
-use borrow.Author.Rules.{rules}
 use Rattle.clerk.proofs.request.release_own.Goals as goal
 
 pub returns-then-has_verdict : goal.returns-then-has_verdict

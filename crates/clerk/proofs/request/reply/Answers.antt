@@ -1,7 +1,6 @@
 -- `request::reply` meets its contract.
 use mathlib.Core.Path.{sym, ◌∙◌}
 use Rattle.exchange.specs.Request.{reply_of, refused}
-use borrow.Author.Rules.{rules}
 use Rattle.clerk.proofs.request.reply.Goals as goal
 
 pub returns-then-not_ready : goal.returns-then-not_ready

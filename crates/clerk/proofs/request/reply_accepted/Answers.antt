@@ -1,6 +1,5 @@
 -- `request::reply_accepted` meets its contract.
 use Rattle.exchange.specs.Request.{reply_accepted}
-use borrow.Author.Rules.{rules}
 use Rattle.clerk.proofs.request.reply_accepted.Goals as goal
 
 pub returns : goal.returns

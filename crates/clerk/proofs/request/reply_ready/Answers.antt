@@ -3,7 +3,6 @@ use mathlib.Core.Path.{sym, ◌∙◌}
 use borrow.Author.Tests.{ltb-false}
 use Rattle.wire.specs.Message.{message_limit}
 use Rattle.exchange.specs.Request.{reply_ready, refused, data_long}
-use borrow.Author.Rules.{rules}
 use Rattle.clerk.proofs.request.reply_ready.Goals as goal
 
 pub returns-then-bad_function : goal.returns-then-bad_function

@@ -1,6 +1,5 @@
 -- `send::ended_own` meets its contract.
 use Rattle.exchange.specs.Send.{ended_own}
-use borrow.Author.Rules.{rules}
 use Rattle.clerk.proofs.send.ended_own.Goals as goal
 
 pub returns : goal.returns

@@ -1,6 +1,5 @@
 -- `send::ended_reply` meets its contract.
 use Rattle.exchange.specs.Send.{ended_reply}
-use borrow.Author.Rules.{rules}
 use Rattle.clerk.proofs.send.ended_reply.Goals as goal
 
 pub returns : goal.returns

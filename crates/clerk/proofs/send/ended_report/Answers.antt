@@ -1,6 +1,5 @@
 -- `send::ended_report` meets its contract.
 use Rattle.exchange.specs.Send.{ended_report}
-use borrow.Author.Rules.{rules}
 use Rattle.clerk.proofs.send.ended_report.Goals as goal
 
 pub returns : goal.returns

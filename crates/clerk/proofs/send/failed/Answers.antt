@@ -1,5 +1,4 @@
 -- `send::failed` meets its contract.
-use borrow.Author.Rules.{rules}
 use Rattle.clerk.proofs.send.failed.Goals as goal
 
 pub returns : goal.returns

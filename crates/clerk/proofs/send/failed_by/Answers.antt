@@ -1,5 +1,4 @@
 -- `send::failed_by` meets its contract.
-use borrow.Author.Rules.{rules}
 use Rattle.clerk.proofs.send.failed_by.Goals as goal
 
 pub returns-in-Nothing : goal.returns-in-Nothing

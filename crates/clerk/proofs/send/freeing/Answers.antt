@@ -1,7 +1,6 @@
 -- `send::freeing` meets its contract.
 use borrow.Author.Tests.{eq-eqb}
 use Rattle.clerk.proofs.Short.{none_starts}
-use borrow.Author.Rules.{rules}
 use Rattle.clerk.proofs.send.freeing.Goals as goal
 
 pub returns-then-reports-eq0 : goal.returns-then-reports-eq0

@@ -1,5 +1,4 @@
 -- `send::outgoing` meets its contract.
-use borrow.Author.Rules.{rules}
 use Rattle.clerk.proofs.send.outgoing.Goals as goal
 
 pub returns-in-Nothing : goal.returns-in-Nothing

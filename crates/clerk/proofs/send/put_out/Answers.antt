@@ -1,5 +1,4 @@
 -- `send::put_out` meets its contract.
-use borrow.Author.Rules.{rules}
 use Rattle.clerk.proofs.send.put_out.Goals as goal
 
 pub returns-in-Nothing : goal.returns-in-Nothing

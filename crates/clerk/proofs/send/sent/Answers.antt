@@ -1,5 +1,4 @@
 -- `send::sent` meets its contract.
-use borrow.Author.Rules.{rules}
 use Rattle.clerk.proofs.send.sent.Goals as goal
 
 pub returns : goal.returns

@@ -1,5 +1,4 @@
 -- `time::got_marks` meets its contract.
-use borrow.Author.Rules.{rules}
 use Rattle.clerk.proofs.time.got_marks.Goals as goal
 
 pub returns : goal.returns

@@ -1,7 +1,6 @@
 -- `time::got_no_reply` meets its contract.
 use mathlib.Core.Path.{sym, ◌∙◌}
 use Rattle.exchange.specs.Tick.{got_no_reply}
-use borrow.Author.Rules.{rules}
 use Rattle.clerk.proofs.time.got_no_reply.Goals as goal
 
 pub returns-then-got_verdict : goal.returns-then-got_verdict

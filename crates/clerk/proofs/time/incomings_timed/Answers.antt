@@ -1,6 +1,5 @@
 -- `time::incomings_timed` meets its contract.
 use mathlib.Core.Path.{sym, ◌∙◌}
-use borrow.Author.Rules.{rules}
 use Rattle.exchange.specs.Tick.{incomings_timed}
 use Rattle.clerk.proofs.time.incomings_timed.Goals as goal
 

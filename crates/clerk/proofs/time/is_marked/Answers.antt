@@ -1,7 +1,6 @@
 -- `time::is_marked` meets its contract.
 use mathlib.Core.Path.{◌≡◌, refl}
 use mathlib.Core.Bool.{Bool, true, false, ◌||◌}
-use borrow.Author.Rules.{rules}
 use Rattle.clerk.proofs.time.is_marked.Goals as goal
 
 here : (a b : Bool) → a ≡ true → true ≡ a || b

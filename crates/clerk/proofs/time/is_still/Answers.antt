@@ -1,6 +1,5 @@
 -- `time::is_still` meets its contract.
 use mathlib.Core.Path.{sym, ◌∙◌}
-use borrow.Author.Rules.{rules}
 use Rattle.exchange.specs.Tick.{is_still}
 use Rattle.clerk.proofs.time.is_still.Goals as goal
 

@@ -2,7 +2,6 @@
 use mathlib.Core.Path.{sym, ap, ◌∙◌}
 use Rattle.clerk.specs.Short.{is_marked}
 use Rattle.clerk.proofs.Short.{none_late}
-use borrow.Author.Rules.{rules}
 use Rattle.clerk.proofs.time.late.Goals as goal
 
 pub returns : goal.returns

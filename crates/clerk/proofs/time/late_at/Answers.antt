@@ -1,7 +1,6 @@
 -- `time::late_at` meets its contract.
 use mathlib.Core.Path.{sym, ◌∙◌}
 use Rattle.exchange.specs.Tick.{late_at}
-use borrow.Author.Rules.{rules}
 use Rattle.clerk.proofs.time.late_at.Goals as goal
 
 pub returns-then-got_no_reply : goal.returns-then-got_no_reply

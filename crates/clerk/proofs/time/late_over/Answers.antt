@@ -1,5 +1,4 @@
 -- `time::late_over` meets its contract.
-use borrow.Author.Rules.{rules}
 use Rattle.exchange.specs.Tick.{late_over}
 use Rattle.clerk.proofs.time.late_over.Goals as goal
 

@@ -1,5 +1,4 @@
 -- `time::latest_over` meets its contract.
-use borrow.Author.Rules.{rules}
 use Rattle.clerk.proofs.time.latest_over.Goals as goal
 
 pub returns : goal.returns

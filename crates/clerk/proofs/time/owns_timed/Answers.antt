@@ -1,6 +1,5 @@
 -- `time::owns_timed` meets its contract.
 use mathlib.Core.Path.{sym, ◌∙◌}
-use borrow.Author.Rules.{rules}
 use Rattle.exchange.specs.Tick.{owns_timed}
 use Rattle.clerk.proofs.time.owns_timed.Goals as goal
 

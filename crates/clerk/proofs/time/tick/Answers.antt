@@ -1,6 +1,5 @@
 -- `time::tick` meets its contract.
 use Rattle.exchange.specs.Tick.{passed_of}
-use borrow.Author.Rules.{rules}
 use Rattle.clerk.proofs.time.tick.Goals as goal
 
 pub late-outbox-requires : goal.late-outbox-requires

@@ -1,7 +1,6 @@
 -- `time::was_dropped` meets its contract.
 use mathlib.Core.Path.{sym, ◌∙◌}
 use Rattle.exchange.specs.Tick.{was_dropped}
-use borrow.Author.Rules.{rules}
 use Rattle.clerk.proofs.time.was_dropped.Goals as goal
 
 pub returns-then-is_open : goal.returns-then-is_open

@@ -1,5 +1,4 @@
 -- `flags::incoming_flags` meets its contract.
-use borrow.Author.Rules.{rules}
 use Rattle.desk.proofs.flags.incoming_flags.Goals as goal
 
 pub returns : goal.returns

@@ -3,7 +3,6 @@ use mathlib.Core.Path.{sym}
 use native.Mathlib.Omega.{arith}
 use lib.Seq.{set_out}
 use Rattle.exchange.specs.Flags.{no_marks}
-use borrow.Author.Rules.{rules}
 use Rattle.desk.proofs.flags.mark_at.Goals as goal
 
 pub returns : goal.returns

@@ -1,5 +1,4 @@
 -- `flags::no_flags` meets its contract.
-use borrow.Author.Rules.{rules}
 use Rattle.desk.proofs.flags.no_flags.Goals as goal
 
 pub returns : goal.returns

@@ -1,5 +1,4 @@
 -- `flags::verdict_flag` meets its contract.
-use borrow.Author.Rules.{rules}
 use Rattle.desk.proofs.flags.verdict_flag.Goals as goal
 
 pub returns : goal.returns

@@ -1,7 +1,6 @@
 -- `range::in_range` meets its contract.
 use mathlib.Core.Path.{sym, ◌∙◌}
 use Rattle.exchange.specs.Range.{exchange_in_range}
-use borrow.Author.Rules.{rules}
 use Rattle.desk.proofs.range.in_range.Goals as goal
 
 pub returns-then-sending_in_range : goal.returns-then-sending_in_range

@@ -1,7 +1,6 @@
 -- `range::incomings_in_range` meets its contract.
 use mathlib.Core.Path.{sym, ◌∙◌}
 use Rattle.exchange.specs.Range.{incomings_in_range}
-use borrow.Author.Rules.{rules}
 use Rattle.desk.proofs.range.incomings_in_range.Goals as goal
 
 pub returns-then-incoming_in_range-3 : goal.returns-then-incoming_in_range-3

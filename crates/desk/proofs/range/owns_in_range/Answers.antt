@@ -1,7 +1,6 @@
 -- `range::owns_in_range` meets its contract.
 use mathlib.Core.Path.{sym, ◌∙◌}
 use Rattle.exchange.specs.Range.{owns_in_range}
-use borrow.Author.Rules.{rules}
 use Rattle.desk.proofs.range.owns_in_range.Goals as goal
 
 pub returns-then-own_in_range-3 : goal.returns-then-own_in_range-3

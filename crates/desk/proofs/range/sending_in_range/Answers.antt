@@ -1,5 +1,4 @@
 -- `range::sending_in_range` meets its contract.
-use borrow.Author.Rules.{rules}
 use Rattle.desk.proofs.range.sending_in_range.Goals as goal
 
 pub returns-in-Nothing : goal.returns-in-Nothing

@@ -1,7 +1,6 @@
 -- `reading::incoming_reading` meets its contract.
 use mathlib.Core.Path.{sym, ◌∙◌}
 use Rattle.exchange.specs.Reading.{incoming_reading}
-use borrow.Author.Rules.{rules}
 use Rattle.desk.proofs.reading.incoming_reading.Goals as goal
 
 pub returns-then-is_free : goal.returns-then-is_free

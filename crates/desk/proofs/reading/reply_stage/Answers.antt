@@ -1,5 +1,4 @@
 -- `reading::reply_stage` meets its contract.
-use borrow.Author.Rules.{rules}
 use Rattle.desk.proofs.reading.reply_stage.Goals as goal
 
 pub returns-in-Free : goal.returns-in-Free

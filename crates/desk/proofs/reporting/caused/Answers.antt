@@ -1,6 +1,5 @@
 -- `reporting::caused` meets its contract.
 use Rattle.exchange.specs.Reports.{caused}
-use borrow.Author.Rules.{rules}
 use Rattle.desk.proofs.reporting.caused.Goals as goal
 
 pub returns-then-terms : goal.returns-then-terms

@@ -1,7 +1,6 @@
 -- `reporting::freed` meets its contract.
 use mathlib.Core.Path.{sym, ◌∙◌}
 use Rattle.exchange.specs.Reports.{freed}
-use borrow.Author.Rules.{rules}
 use Rattle.desk.proofs.reporting.freed.Goals as goal
 
 pub returns-then-is_over : goal.returns-then-is_over

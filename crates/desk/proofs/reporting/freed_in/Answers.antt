@@ -1,6 +1,5 @@
 -- `reporting::freed_in` meets its contract.
 use Rattle.exchange.specs.Reports.{freed_in}
-use borrow.Author.Rules.{rules}
 use Rattle.desk.proofs.reporting.freed_in.Goals as goal
 
 pub returns : goal.returns

@@ -1,7 +1,6 @@
 -- `reporting::is_over` meets its contract.
 use mathlib.Core.Path.{sym, ◌∙◌}
 use Rattle.exchange.specs.Reports.{is_over}
-use borrow.Author.Rules.{rules}
 use Rattle.desk.proofs.reporting.is_over.Goals as goal
 
 pub returns-then-is_message : goal.returns-then-is_message

@@ -1,7 +1,6 @@
 -- `reporting::oldest_starts` meets its contract.
 use borrow.Author.Tests.{eq-eqb, ne_eqb}
 use Rattle.exchange.specs.Reports.{oldest_starts}
-use borrow.Author.Rules.{rules}
 use Rattle.desk.proofs.reporting.oldest_starts.Goals as goal
 
 pub returns-then-before-eq0 : goal.returns-then-before-eq0

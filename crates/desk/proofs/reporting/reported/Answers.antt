@@ -1,7 +1,6 @@
 -- `reporting::reported` meets its contract.
 use mathlib.Core.Path.{sym, ◌∙◌}
 use Rattle.exchange.specs.Reports.{reported}
-use borrow.Author.Rules.{rules}
 use Rattle.desk.proofs.reporting.reported.Goals as goal
 
 pub returns-then-is_message : goal.returns-then-is_message

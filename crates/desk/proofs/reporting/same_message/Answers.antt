@@ -1,11 +1,10 @@
 -- `reporting::same_message` meets its contract.
-use mathlib.Core.Path.{◌≡◌, refl, ◌∙◌}
+use mathlib.Core.Path.{◌≡◌, refl}
 use mathlib.Core.Bool.{not}
 use Rattle.exchange.specs.Reports.{same_message}
 use Rattle.exchange.specs.Request.{sending_by}
 use Rattle.exchange.specs.declared.Sending.{Sending}
 use Rattle.exchange.specs.declared.Sending.TheVariants as sending
-use borrow.Author.Rules.{rules}
 use Rattle.desk.proofs.reporting.same_message.Goals as goal
 
 -- nothing is the same as nothing

@@ -1,6 +1,5 @@
 -- `reporting::same_primary` meets its contract.
 use borrow.Author.Tests.{eq-eqb, ne_eqb}
-use borrow.Author.Rules.{rules}
 use Rattle.desk.proofs.reporting.same_primary.Goals as goal
 
 pub returns-then-from-place : goal.returns-then-from-place

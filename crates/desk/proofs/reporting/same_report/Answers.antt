@@ -1,6 +1,5 @@
 -- `reporting::same_report` meets its contract.
 use borrow.Author.Tests.{eq-eqb, ne_eqb}
-use borrow.Author.Rules.{rules}
 use Rattle.desk.proofs.reporting.same_report.Goals as goal
 
 pub returns-then-said-function : goal.returns-then-said-function

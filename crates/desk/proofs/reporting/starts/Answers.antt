@@ -1,6 +1,5 @@
 -- `reporting::starts` meets its contract.
 use Rattle.exchange.specs.Reports.{starts}
-use borrow.Author.Rules.{rules}
 use Rattle.desk.proofs.reporting.starts.Goals as goal
 
 pub returns : goal.returns

@@ -1,5 +1,4 @@
 -- `state::fresh` meets its contract.
-use borrow.Author.Rules.{rules}
 use Rattle.desk.proofs.state.fresh.Goals as goal
 
 pub returns : goal.returns

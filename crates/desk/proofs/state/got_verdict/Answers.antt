@@ -1,7 +1,6 @@
 -- `state::got_verdict` meets its contract.
 use mathlib.Core.Path.{sym, ◌∙◌}
 use Rattle.exchange.specs.Exchange.{got_verdict}
-use borrow.Author.Rules.{rules}
 use Rattle.desk.proofs.state.got_verdict.Goals as goal
 
 pub returns-then-has_verdict : goal.returns-then-has_verdict

@@ -1,7 +1,6 @@
 -- `state::latest_after` meets its contract.
 use mathlib.Core.Path.{sym, ◌∙◌}
 use Rattle.exchange.specs.Exchange.{latest_after}
-use borrow.Author.Rules.{rules}
 use Rattle.desk.proofs.state.latest_after.Goals as goal
 
 pub returns-then-got_verdict : goal.returns-then-got_verdict

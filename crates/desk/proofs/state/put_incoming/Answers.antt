@@ -1,6 +1,5 @@
 -- `state::put_incoming` meets its contract.
 use Rattle.exchange.specs.Exchange.{put_incoming}
-use borrow.Author.Rules.{rules}
 use Rattle.desk.proofs.state.put_incoming.Goals as goal
 
 pub returns : goal.returns

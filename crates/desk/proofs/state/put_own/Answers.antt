@@ -1,6 +1,5 @@
 -- `state::put_own` meets its contract.
 use Rattle.exchange.specs.Exchange.{put_own}
-use borrow.Author.Rules.{rules}
 use Rattle.desk.proofs.state.put_own.Goals as goal
 
 pub returns : goal.returns

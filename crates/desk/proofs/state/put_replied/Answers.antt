@@ -1,6 +1,5 @@
 -- `state::put_replied` meets its contract.
 use Rattle.exchange.specs.Exchange.{put_replied}
-use borrow.Author.Rules.{rules}
 use Rattle.desk.proofs.state.put_replied.Goals as goal
 
 pub returns : goal.returns

@@ -1,7 +1,6 @@
 -- `state::sent_behind` meets its contract.
 use mathlib.Core.Path.{sym, ◌∙◌}
 use Rattle.exchange.specs.Exchange.{sent_behind}
-use borrow.Author.Rules.{rules}
 use Rattle.desk.proofs.state.sent_behind.Goals as goal
 
 pub returns-then-sent_from : goal.returns-then-sent_from

@@ -1,5 +1,4 @@
 -- `state::sent_from` meets its contract.
-use borrow.Author.Rules.{rules}
 use Rattle.desk.proofs.state.sent_from.Goals as goal
 
 pub returns-in-Primary : goal.returns-in-Primary

@@ -1,6 +1,5 @@
 -- `judging::begins_at` meets its contract.
 use Rattle.exchange.specs.Judge.{begins_at}
-use borrow.Author.Rules.{rules}
 use Rattle.judging.proofs.judging.begins_at.Goals as goal
 
 pub returns : goal.returns

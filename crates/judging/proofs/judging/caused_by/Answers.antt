@@ -1,5 +1,4 @@
 -- `judging::caused_by` meets its contract.
-use borrow.Author.Rules.{rules}
 use Rattle.judging.proofs.judging.caused_by.Goals as goal
 
 pub returns-in-Kept : goal.returns-in-Kept

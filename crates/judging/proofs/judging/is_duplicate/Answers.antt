@@ -1,6 +1,5 @@
 -- `judging::is_duplicate` meets its contract.
 use Rattle.exchange.specs.Judge.{is_duplicate, is_saved}
-use borrow.Author.Rules.{rules}
 use Rattle.judging.proofs.judging.is_duplicate.Goals as goal
 
 pub returns-then-saved : goal.returns-then-saved

@@ -1,7 +1,6 @@
 -- `judging::judge` meets its contract.
 use mathlib.Core.Path.{sym, ◌∙◌}
 use Rattle.judging.proofs.Silent.{reports_on, silently}
-use borrow.Author.Rules.{rules}
 use Rattle.judging.proofs.judging.judge.Goals as goal
 
 pub returns-then-causes : goal.returns-then-causes

@@ -1,5 +1,4 @@
 -- `judging::keep_by` meets its contract.
-use borrow.Author.Rules.{rules}
 use Rattle.judging.proofs.judging.keep_by.Goals as goal
 
 pub returns-in-Empty : goal.returns-in-Empty

@@ -1,6 +1,5 @@
 -- `judging::message_block` meets its contract.
 use Rattle.exchange.specs.Judge.{message_block}
-use borrow.Author.Rules.{rules}
 use Rattle.judging.proofs.judging.message_block.Goals as goal
 
 pub returns : goal.returns

@@ -1,7 +1,6 @@
 -- `judging::new_block` meets its contract.
 use mathlib.Core.Path.{sym, ◌∙◌}
 use Rattle.exchange.specs.Judge.{new_block}
-use borrow.Author.Rules.{rules}
 use Rattle.judging.proofs.judging.new_block.Goals as goal
 
 pub returns-in-At : goal.returns-in-At

@@ -1,7 +1,6 @@
 -- `judging::no_reply_block` meets its contract.
 use mathlib.Core.Path.{sym, ◌∙◌}
 use Rattle.exchange.specs.Judge.{no_reply_block, thrown, or_primary}
-use borrow.Author.Rules.{rules}
 use Rattle.judging.proofs.judging.no_reply_block.Goals as goal
 
 pub returns-in-At : goal.returns-in-At

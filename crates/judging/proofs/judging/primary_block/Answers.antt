@@ -1,7 +1,6 @@
 -- `judging::primary_block` meets its contract.
 use mathlib.Core.Path.{sym, ◌∙◌}
 use Rattle.exchange.specs.Judge.{primary_block, thrown}
-use borrow.Author.Rules.{rules}
 use Rattle.judging.proofs.judging.primary_block.Goals as goal
 
 pub returns-in-Empty : goal.returns-in-Empty

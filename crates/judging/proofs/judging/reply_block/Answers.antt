@@ -1,6 +1,5 @@
 -- `judging::reply_block` meets its contract.
 use Rattle.exchange.specs.Judge.{reply_block}
-use borrow.Author.Rules.{rules}
 use Rattle.judging.proofs.judging.reply_block.Goals as goal
 
 pub returns : goal.returns

@@ -1,5 +1,4 @@
 -- `judging::reporting` meets its contract.
-use borrow.Author.Rules.{rules}
 use Rattle.exchange.specs.Judge.{box_behind}
 use Rattle.judging.proofs.judging.reporting.Goals as goal
 

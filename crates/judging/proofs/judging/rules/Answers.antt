@@ -1,7 +1,6 @@
 -- `judging::rules` meets its contract.
 use mathlib.Core.Path.{sym, ◌∙◌}
 use Rattle.exchange.specs.Judge.{rules_of, thrown}
-use borrow.Author.Rules.{rules}
 use Rattle.judging.proofs.judging.rules.Goals as goal
 
 pub returns-then-is_misrouted : goal.returns-then-is_misrouted

@@ -1,10 +1,8 @@
 -- `judging::same_bytes` meets its contract: what is left to compare gives the same answer.
-use Prim.Native.Nat.{◌-◌, ◌≤◌}
 use mathlib.Core.Path.{◌≡◌, refl, sym, ◌∙◌}
 use native.Mathlib.Omega.{arith}
-use lib.ListN.{length, drop}
+use lib.ListN.{length}
 use borrow.Author.Rules.{rules}
-use Rattle.exchange.specs.Judge.{same_bytes}
 use Rattle.exchange.proofs.Alike.{agree, differ, alike}
 use Rattle.judging.proofs.judging.same_bytes.Goals as goal
 

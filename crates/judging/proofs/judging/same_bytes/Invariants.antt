@@ -1,10 +1,7 @@
 use Prim.Native.Nat.{◌-◌, ◌≤◌}
-use mathlib.Core.Path.{◌≡◌, refl, sym, ◌∙◌}
-use native.Mathlib.Omega.{arith}
-use lib.ListN.{length, drop}
-use borrow.Author.Rules.{rules}
+use mathlib.Core.Path.{◌≡◌}
+use lib.ListN.{drop}
 use Rattle.exchange.specs.Judge.{same_bytes}
-use Rattle.exchange.proofs.Alike.{agree, differ, alike}
 use Rattle.judging.proofs.judging.same_bytes.Given as goal
 
 abbrev pub invariant-loop-i : goal.invariant-loop-i

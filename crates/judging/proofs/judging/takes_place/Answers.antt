@@ -1,7 +1,6 @@
 -- `judging::takes_place` meets its contract.
 use mathlib.Core.Path.{sym, ◌∙◌}
 use Rattle.exchange.specs.Judge.{takes_place, thrown}
-use borrow.Author.Rules.{rules}
 use Rattle.judging.proofs.judging.takes_place.Goals as goal
 
 pub returns-in-At : goal.returns-in-At

@@ -1,5 +1,4 @@
 -- `judging::thrown` meets its contract.
-use borrow.Author.Rules.{rules}
 use Rattle.judging.proofs.judging.thrown.Goals as goal
 
 pub returns : goal.returns

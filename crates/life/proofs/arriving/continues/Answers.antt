@@ -1,7 +1,6 @@
 -- `arriving::continues` meets its contract.
 use borrow.Author.Tests.{eq-eqb, ne_eqb}
 use Rattle.place.specs.Arriving.{continues_arriving}
-use borrow.Author.Rules.{rules}
 use Rattle.life.proofs.arriving.continues.Goals as goal
 
 pub returns-then-header-arriving : goal.returns-then-header-arriving

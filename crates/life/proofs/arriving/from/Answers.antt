@@ -1,5 +1,4 @@
 -- `arriving::from` meets its contract.
-use borrow.Author.Rules.{rules}
 use Rattle.life.proofs.arriving.from.Goals as goal
 
 pub returns : goal.returns

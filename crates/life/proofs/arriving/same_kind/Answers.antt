@@ -1,7 +1,6 @@
 -- `arriving::same_kind` meets its contract.
 use borrow.Author.Tests.{eq-eqb, ne_eqb}
 use Rattle.place.specs.Arriving.{same_kind}
-use borrow.Author.Rules.{rules}
 use Rattle.life.proofs.arriving.same_kind.Goals as goal
 
 pub returns-then-kind-header-2 : goal.returns-then-kind-header-2

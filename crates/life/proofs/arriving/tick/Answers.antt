@@ -1,7 +1,6 @@
 -- `arriving::tick` meets its contract.
 use mathlib.Core.Path.{sym, ◌∙◌}
 use Rattle.place.specs.Arriving.{arriving_tick}
-use borrow.Author.Rules.{rules}
 use Rattle.life.proofs.arriving.tick.Goals as goal
 
 pub returns-in-RunsOut : goal.returns-in-RunsOut

@@ -1,7 +1,6 @@
 -- `fate::begins_primary` meets its contract.
 use borrow.Author.Tests.{eq-eqb, ne_eqb}
 use Rattle.place.specs.Fate.{begins_primary}
-use borrow.Author.Rules.{rules}
 use Rattle.life.proofs.fate.begins_primary.Goals as goal
 
 pub returns-then-header-eq1 : goal.returns-then-header-eq1

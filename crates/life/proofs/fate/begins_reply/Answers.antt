@@ -1,7 +1,6 @@
 -- `fate::begins_reply` meets its contract.
 use borrow.Author.Tests.{eq-eqb, ne_eqb}
 use Rattle.place.specs.Fate.{begins_reply}
-use borrow.Author.Rules.{rules}
 use Rattle.life.proofs.fate.begins_reply.Goals as goal
 
 pub returns-then-header-eq0 : goal.returns-then-header-eq0

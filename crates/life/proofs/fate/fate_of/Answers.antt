@@ -5,7 +5,6 @@ use native.Mathlib.Omega.{arith}
 use Prim.Native.Nat.{◌+◌}
 use Rattle.wire.specs.Message.{message_limit}
 use Rattle.place.specs.Fate.{fate_of, too_long}
-use borrow.Author.Rules.{rules}
 use Rattle.life.proofs.fate.fate_of.Goals as goal
 
 pub returns-then-lacks_data : goal.returns-then-lacks_data

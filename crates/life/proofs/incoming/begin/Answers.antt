@@ -1,6 +1,5 @@
 -- `incoming::begin` meets its contract.
 use Rattle.place.specs.Incoming.{begins}
-use borrow.Author.Rules.{rules}
 use Rattle.life.proofs.incoming.begin.Goals as goal
 
 pub returns : goal.returns

@@ -1,5 +1,4 @@
 -- `incoming::begun_by` meets its contract.
-use borrow.Author.Rules.{rules}
 use Rattle.life.proofs.incoming.begun_by.Goals as goal
 
 pub returns-in-Empty : goal.returns-in-Empty

@@ -1,6 +1,5 @@
 -- `incoming::continues_here` meets its contract.
 use Rattle.place.specs.Incoming.{continues_here}
-use borrow.Author.Rules.{rules}
 use Rattle.life.proofs.incoming.continues_here.Goals as goal
 
 pub returns : goal.returns

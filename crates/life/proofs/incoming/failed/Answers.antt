@@ -1,5 +1,4 @@
 -- `incoming::failed` meets its contract.
-use borrow.Author.Rules.{rules}
 use Rattle.life.proofs.incoming.failed.Goals as goal
 
 pub returns-in-Free : goal.returns-in-Free

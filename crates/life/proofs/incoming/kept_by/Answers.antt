@@ -1,5 +1,4 @@
 -- `incoming::kept_by` meets its contract.
-use borrow.Author.Rules.{rules}
 use Rattle.life.proofs.incoming.kept_by.Goals as goal
 
 pub returns-in-Empty : goal.returns-in-Empty

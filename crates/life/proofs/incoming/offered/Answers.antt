@@ -1,7 +1,6 @@
 -- `incoming::offered` meets its contract.
 use mathlib.Core.Path.{sym, ◌∙◌}
 use Rattle.place.specs.Incoming.{incoming_offered, goes_on}
-use borrow.Author.Rules.{rules}
 use Rattle.life.proofs.incoming.offered.Goals as goal
 
 pub returns-then-takes : goal.returns-then-takes

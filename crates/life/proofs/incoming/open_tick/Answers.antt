@@ -1,7 +1,6 @@
 -- `incoming::open_tick` meets its contract.
 use mathlib.Core.Path.{sym, ◌∙◌}
 use Rattle.place.specs.Incoming.{open_tick}
-use borrow.Author.Rules.{rules}
 use Rattle.life.proofs.incoming.open_tick.Goals as goal
 
 pub returns-in-Broken : goal.returns-in-Broken

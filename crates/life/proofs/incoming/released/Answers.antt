@@ -1,5 +1,4 @@
 -- `incoming::released` meets its contract.
-use borrow.Author.Rules.{rules}
 use Rattle.life.proofs.incoming.released.Goals as goal
 
 pub returns-in-Free : goal.returns-in-Free

@@ -1,5 +1,4 @@
 -- `incoming::sent` meets its contract.
-use borrow.Author.Rules.{rules}
 use Rattle.life.proofs.incoming.sent.Goals as goal
 
 pub returns-in-Free : goal.returns-in-Free

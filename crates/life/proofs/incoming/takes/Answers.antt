@@ -1,5 +1,4 @@
 -- `incoming::takes` meets its contract.
-use borrow.Author.Rules.{rules}
 use Rattle.life.proofs.incoming.takes.Goals as goal
 
 pub returns-in-Free : goal.returns-in-Free

@@ -1,6 +1,5 @@
 -- `own::acknowledged` meets its contract.
 use Rattle.place.specs.Own.{acknowledged}
-use borrow.Author.Rules.{rules}
 use Rattle.life.proofs.own.acknowledged.Goals as goal
 
 pub returns-then-primary : goal.returns-then-primary

@@ -1,7 +1,6 @@
 -- `own::await_tick` meets its contract.
 use mathlib.Core.Path.{sym, ◌∙◌}
 use Rattle.place.specs.Own.{await_tick}
-use borrow.Author.Rules.{rules}
 use Rattle.life.proofs.own.await_tick.Goals as goal
 
 pub returns-in-RunsOut : goal.returns-in-RunsOut

@@ -1,7 +1,6 @@
 -- `own::awaits` meets its contract.
 use borrow.Author.Tests.{eq-eqb, ne_eqb}
 use Rattle.place.specs.Own.{awaits}
-use borrow.Author.Rules.{rules}
 use Rattle.life.proofs.own.awaits.Goals as goal
 
 pub returns-then-primary-header : goal.returns-then-primary-header

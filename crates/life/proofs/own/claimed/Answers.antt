@@ -1,5 +1,4 @@
 -- `own::claimed` meets its contract.
-use borrow.Author.Rules.{rules}
 use Rattle.life.proofs.own.claimed.Goals as goal
 
 pub returns-in-Free : goal.returns-in-Free

@@ -1,6 +1,5 @@
 -- `own::continues_reply` meets its contract.
 use Rattle.place.specs.Own.{continues_reply}
-use borrow.Author.Rules.{rules}
 use Rattle.life.proofs.own.continues_reply.Goals as goal
 
 pub returns : goal.returns

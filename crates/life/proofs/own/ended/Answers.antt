@@ -1,6 +1,5 @@
 -- `own::ended` meets its contract.
 use Rattle.place.specs.Own.{ended}
-use borrow.Author.Rules.{rules}
 use Rattle.life.proofs.own.ended.Goals as goal
 
 pub returns : goal.returns

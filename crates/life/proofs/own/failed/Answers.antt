@@ -1,5 +1,4 @@
 -- `own::failed` meets its contract.
-use borrow.Author.Rules.{rules}
 use Rattle.life.proofs.own.failed.Goals as goal
 
 pub returns-in-Free : goal.returns-in-Free

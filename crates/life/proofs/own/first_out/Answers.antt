@@ -1,6 +1,5 @@
 -- `own::first_out` meets its contract.
 use Rattle.place.specs.Own.{first_out}
-use borrow.Author.Rules.{rules}
 use Rattle.life.proofs.own.first_out.Goals as goal
 
 pub returns-then-primary : goal.returns-then-primary

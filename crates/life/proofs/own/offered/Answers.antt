@@ -1,7 +1,6 @@
 -- `own::offered` meets its contract.
 use mathlib.Core.Path.{sym, ◌∙◌}
 use Rattle.place.specs.Own.{own_offered, replied}
-use borrow.Author.Rules.{rules}
 use Rattle.life.proofs.own.offered.Goals as goal
 
 pub returns-then-takes : goal.returns-then-takes

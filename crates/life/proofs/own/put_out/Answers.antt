@@ -1,5 +1,4 @@
 -- `own::put_out` meets its contract.
-use borrow.Author.Rules.{rules}
 use Rattle.life.proofs.own.put_out.Goals as goal
 
 pub returns-in-Free : goal.returns-in-Free

@@ -1,5 +1,4 @@
 -- `own::replied` meets its contract.
-use borrow.Author.Rules.{rules}
 use Rattle.life.proofs.own.replied.Goals as goal
 
 pub returns-in-Empty : goal.returns-in-Empty

@@ -1,7 +1,6 @@
 -- `own::reply_tick` meets its contract.
 use mathlib.Core.Path.{sym, ◌∙◌}
 use Rattle.place.specs.Own.{reply_tick}
-use borrow.Author.Rules.{rules}
 use Rattle.life.proofs.own.reply_tick.Goals as goal
 
 pub returns-in-Broken : goal.returns-in-Broken

@@ -1,5 +1,4 @@
 -- `own::sent` meets its contract.
-use borrow.Author.Rules.{rules}
 use Rattle.life.proofs.own.sent.Goals as goal
 
 pub returns-in-Free : goal.returns-in-Free

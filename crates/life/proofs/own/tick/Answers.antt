@@ -1,5 +1,4 @@
 -- `own::tick` meets its contract.
-use borrow.Author.Rules.{rules}
 use Rattle.life.proofs.own.tick.Goals as goal
 
 pub returns-in-Free : goal.returns-in-Free

@@ -2,7 +2,6 @@
 use mathlib.Core.Path.{sym, ◌∙◌}
 use borrow.Author.Tests.{eq-eqb, ne_eqb}
 use Rattle.place.specs.Own.{verdict_of}
-use borrow.Author.Rules.{rules}
 use Rattle.life.proofs.own.verdict.Goals as goal
 
 pub returns-then-follows : goal.returns-then-follows

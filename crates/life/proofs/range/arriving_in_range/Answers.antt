@@ -2,7 +2,6 @@
 use mathlib.Core.Path.{sym, ◌∙◌}
 use borrow.Author.Tests.{le-leb, lt-leb}
 use Rattle.place.specs.Range.{arriving_in_range}
-use borrow.Author.Rules.{rules}
 use Rattle.life.proofs.range.arriving_in_range.Goals as goal
 
 pub returns-then-arriving-le-NEXT_LIMIT : goal.returns-then-arriving-le-NEXT_LIMIT

@@ -1,5 +1,4 @@
 -- `range::own_in_range` meets its contract.
-use borrow.Author.Rules.{rules}
 use Rattle.life.proofs.range.own_in_range.Goals as goal
 
 pub returns-in-Free : goal.returns-in-Free

@@ -1,6 +1,6 @@
 -- `find::first` meets its contract: what is ahead of place i gives the same answer.
-use Rattle.std.proofs.Common.{◌≡◌, ◌-◌, ◌≤◌, length, drop, refl, arith, rules}
-use Rattle.table.specs.Find.{first_from, first_of}
+use Rattle.std.proofs.Common.{◌≡◌, length, refl, arith, rules}
+use Rattle.table.specs.Find.{first_of}
 use Rattle.table.proofs.Firsts.{hit, miss, none}
 use Rattle.seek.proofs.find.first.Goals as goal
 

@@ -1,6 +1,5 @@
-use Rattle.std.proofs.Common.{◌≡◌, ◌-◌, ◌≤◌, length, drop, refl, arith, rules}
+use Rattle.std.proofs.Common.{◌≡◌, ◌-◌, ◌≤◌, drop}
 use Rattle.table.specs.Find.{first_from, first_of}
-use Rattle.table.proofs.Firsts.{hit, miss, none}
 use Rattle.seek.proofs.find.first.Given as goal
 
 abbrev pub invariant-loop-i : goal.invariant-loop-i

@@ -1,5 +1,5 @@
 -- `incoming::alike` meets its contract.
-use Rattle.std.proofs.Common.{sym, ◌∙◌, rules}
+use Rattle.std.proofs.Common.{sym, ◌∙◌}
 use Rattle.table.specs.Incoming.{alike}
 use Rattle.seek.proofs.incoming.alike.Goals as goal
 

@@ -1,6 +1,5 @@
 -- `incoming::free_incoming` meets its contract.
 use Rattle.table.specs.Incoming.{free_incoming}
-use Rattle.std.proofs.Common.{rules}
 use Rattle.seek.proofs.incoming.free_incoming.Goals as goal
 
 pub returns : goal.returns

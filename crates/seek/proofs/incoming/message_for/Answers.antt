@@ -1,6 +1,5 @@
 -- `incoming::message_for` meets its contract.
 use Rattle.table.specs.Incoming.{message_for}
-use Rattle.std.proofs.Common.{rules}
 use Rattle.seek.proofs.incoming.message_for.Goals as goal
 
 pub returns : goal.returns

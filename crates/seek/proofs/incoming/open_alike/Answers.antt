@@ -1,6 +1,5 @@
 -- `incoming::open_alike` meets its contract.
 use Rattle.table.specs.Incoming.{open_alike}
-use Rattle.std.proofs.Common.{rules}
 use Rattle.seek.proofs.incoming.open_alike.Goals as goal
 
 pub returns : goal.returns

@@ -1,5 +1,5 @@
 -- `number::following` meets its contract.
-use Rattle.std.proofs.Common.{arith, rules, eq-eqb, ne_eqb}
+use Rattle.std.proofs.Common.{arith, eq-eqb, ne_eqb}
 use Rattle.table.specs.Number.{following}
 use Rattle.seek.proofs.number.following.Goals as goal
 

@@ -1,5 +1,5 @@
 -- `number::held_number` meets its contract.
-use Rattle.std.proofs.Common.{sym, ◌∙◌, rules}
+use Rattle.std.proofs.Common.{sym, ◌∙◌}
 use Rattle.table.specs.Number.{held_number}
 use Rattle.seek.proofs.number.held_number.Goals as goal
 

@@ -61,11 +61,10 @@ pub loop-i-preserved : goal.loop-i-preserved
 unfolding held_number
 loop-i-preserved c =
     let four : length c.args.own ≡ 4 = search rules in
-    let four_n = four_nums c.args.last c.args.latest c.args.own four in
-    (
+    let four_n = four_nums c.args.last c.args.latest c.args.own four in (
       search rules,
       miss _ (map held_number c.args.own) c.loop-i.i (omega arith) c.loop-i.invariant.1
-      (λ q. c.if-held_number-n.false (sym (its_number c.args.last c.args.latest c.args.own four c.loop-i.i _ _ c.held_number.ensures refl) ∙ q)),
+          (λ q. c.if-held_number-n.false (sym (its_number c.args.last c.args.latest c.args.own four c.loop-i.i _ _ c.held_number.ensures refl) ∙ q)),
     )
 
 pub returns : goal.returns

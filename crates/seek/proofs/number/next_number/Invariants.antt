@@ -1,8 +1,6 @@
-use Rattle.std.proofs.Common.{◌≡◌, ℕ, ◌-◌, ◌<◌, ◌≤◌, true, List, ◌∷◌, map, length, get_or, drop, sym, refl, ◌∙◌, arith, rules, eq-eqb}
-use lib.ListN.{length-map, get_or-map}
-use Rattle.table.proofs.Numbers.{wait, found, Goes, goes_on_lem, hit, miss, left}
-use Rattle.table.proofs.Fours.{unmapped}
-use Rattle.table.specs.Number.{held_number, among, next_number}
+use Rattle.std.proofs.Common.{◌≡◌, ◌-◌, ◌≤◌, ◌∷◌, map, drop}
+use Rattle.table.proofs.Numbers.{wait, Goes}
+use Rattle.table.specs.Number.{held_number, among}
 use Rattle.seek.proofs.number.next_number.Given as goal
 
 -- the walk at place i: n is among the rest exactly if it is among all

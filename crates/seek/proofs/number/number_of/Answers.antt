@@ -1,6 +1,5 @@
 -- `number::number_of` meets its contract.
 use Rattle.table.specs.Number.{number_of}
-use Rattle.std.proofs.Common.{rules}
 use Rattle.seek.proofs.number.number_of.Goals as goal
 
 pub returns : goal.returns

@@ -1,6 +1,5 @@
 -- `own::free_own` meets its contract.
 use Rattle.table.specs.Own.{free_own}
-use Rattle.std.proofs.Common.{rules}
 use Rattle.seek.proofs.own.free_own.Goals as goal
 
 pub returns : goal.returns

@@ -1,6 +1,5 @@
 -- `own::reply_for` meets its contract.
 use Rattle.table.specs.Own.{reply_for}
-use Rattle.std.proofs.Common.{rules}
 use Rattle.seek.proofs.own.reply_for.Goals as goal
 
 pub returns : goal.returns

@@ -3,7 +3,6 @@ use mathlib.Core.Path.{sym, ◌∙◌}
 use borrow.Author.Tests.{le-leb, lt-leb}
 use Rattle.settings.specs.Panel.{between}
 use Rattle.link.specs.State.{link_in_range}
-use borrow.Author.Rules.{rules}
 use Rattle.unit.proofs.admit.fits.Goals as goal
 
 pub returns-then-in_range : goal.returns-then-in_range

@@ -1,7 +1,6 @@
 -- `admit::gate` meets its contract.
 use mathlib.Core.Path.{◌∙◌}
 use Rattle.unit.proofs.Courses.{by_parts}
-use borrow.Author.Rules.{rules}
 use Rattle.unit.proofs.admit.gate.Goals as goal
 
 pub returns : goal.returns

@@ -1,5 +1,4 @@
 -- `answer::note_of` meets its contract.
-use borrow.Author.Rules.{rules}
 use Rattle.unit.proofs.answer.note_of.Goals as goal
 
 pub returns-in-Bad : goal.returns-in-Bad

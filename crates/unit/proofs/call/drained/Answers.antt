@@ -1,7 +1,6 @@
 -- `call::drained` meets its contract.
 use Rattle.unit.proofs.Gates.{past}
 use Rattle.unit.proofs.Courses.{opens, shuts}
-use borrow.Author.Rules.{rules}
 use Rattle.unit.proofs.call.drained.Goals as goal
 
 pub onward-requires : goal.onward-requires

@@ -1,6 +1,5 @@
 -- `courier::courier` meets its contract.
 use mathlib.Core.Path.{sym, ◌∙◌}
-use borrow.Author.Rules.{rules}
 use Rattle.unit.proofs.courier.courier.Goals as goal
 
 pub returns-then-same_message : goal.returns-then-same_message

@@ -1,6 +1,5 @@
 -- `courier::course` meets its contract.
 use Rattle.unit.proofs.Courses.{closes}
-use borrow.Author.Rules.{rules}
 use Rattle.unit.proofs.courier.course.Goals as goal
 
 pub returns : goal.returns

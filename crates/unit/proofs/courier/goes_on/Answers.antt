@@ -1,5 +1,4 @@
 -- `courier::goes_on` meets its contract.
-use borrow.Author.Rules.{rules}
 use Rattle.unit.proofs.courier.goes_on.Goals as goal
 
 pub returns-in-Nothing : goal.returns-in-Nothing

@@ -1,5 +1,4 @@
 -- `courier::settles` meets its contract.
-use borrow.Author.Rules.{rules}
 use Rattle.unit.proofs.courier.settles.Goals as goal
 
 pub returns : goal.returns

@@ -1,5 +1,4 @@
 -- `flags::both_flags` meets its contract.
-use borrow.Author.Rules.{rules}
 use Rattle.unit.proofs.flags.both_flags.Goals as goal
 
 pub returns : goal.returns

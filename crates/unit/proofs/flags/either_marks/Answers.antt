@@ -1,5 +1,4 @@
 -- `flags::either_marks` meets its contract.
-use borrow.Author.Rules.{rules}
 use Rattle.unit.proofs.flags.either_marks.Goals as goal
 
 pub returns : goal.returns

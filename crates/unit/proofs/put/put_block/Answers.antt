@@ -1,6 +1,5 @@
 -- `put::put_block` meets its contract.
 use Rattle.unit.proofs.Codes.{wrote, not_refused}
-use borrow.Author.Rules.{rules}
 use Rattle.unit.proofs.put.put_block.Goals as goal
 
 pub returns-in-Bytes : goal.returns-in-Bytes

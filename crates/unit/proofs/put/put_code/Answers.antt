@@ -1,5 +1,4 @@
 -- `put::put_code` meets its contract.
-use borrow.Author.Rules.{rules}
 use Rattle.unit.proofs.put.put_code.Goals as goal
 
 pub returns-in-Code : goal.returns-in-Code

@@ -2,7 +2,6 @@
 use native.Mathlib.Omega.{arith}
 use Rattle.unit.proofs.Codes.{code_short, codes_length, codes_put, put_length}
 use mathlib.Core.Path.{◌∙◌}
-use borrow.Author.Rules.{rules}
 use Rattle.unit.proofs.put.put_codes.Goals as goal
 
 pub put_code-more-requires : goal.put_code-more-requires

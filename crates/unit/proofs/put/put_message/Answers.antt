@@ -1,7 +1,6 @@
 -- `put::put_message` meets its contract.
 use mathlib.Core.Path.{refl}
 use Rattle.unit.proofs.Codes.{no_code, part_fits, cut_from}
-use borrow.Author.Rules.{rules}
 use Rattle.unit.proofs.put.put_message.Goals as goal
 
 pub put_block-requires : goal.put_block-requires

@@ -1,6 +1,5 @@
 -- `reading::incoming_data` meets its contract.
 use mathlib.Core.Path.{sym, ◌∙◌}
-use borrow.Author.Rules.{rules}
 use Rattle.unit.proofs.reading.incoming_data.Goals as goal
 
 pub returns-in-NoPlace : goal.returns-in-NoPlace

@@ -1,7 +1,6 @@
 -- `request::asks` meets its contract.
 use mathlib.Core.Path.{refl}
 use Rattle.unit.proofs.Courses.{closes}
-use borrow.Author.Rules.{rules}
 use Rattle.unit.proofs.request.asks.Goals as goal
 
 pub returns-in-Taken : goal.returns-in-Taken

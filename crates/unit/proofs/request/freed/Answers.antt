@@ -1,5 +1,4 @@
 -- `request::freed` meets its contract.
-use borrow.Author.Rules.{rules}
 use Rattle.unit.proofs.request.freed.Goals as goal
 
 pub returns-in-Taken : goal.returns-in-Taken

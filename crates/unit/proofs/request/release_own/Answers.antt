@@ -1,7 +1,6 @@
 -- `request::release_own` meets its contract.
 use mathlib.Core.Path.{sym, ◌∙◌}
 use Rattle.link.specs.Call.{free_call}
-use borrow.Author.Rules.{rules}
 use Rattle.unit.proofs.request.release_own.Goals as goal
 
 pub returns-then-in_range : goal.returns-then-in_range

@@ -1,6 +1,5 @@
 -- `setup::agreed` meets its contract.
 use mathlib.Core.Path.{sym, ◌∙◌}
-use borrow.Author.Rules.{rules}
 use Rattle.unit.proofs.setup.agreed.Goals as goal
 
 pub returns-in-Terms : goal.returns-in-Terms

@@ -1,5 +1,4 @@
 -- `setup::no_settings` meets its contract.
-use borrow.Author.Rules.{rules}
 use Rattle.unit.proofs.setup.no_settings.Goals as goal
 
 pub returns : goal.returns

@@ -2,7 +2,6 @@
 use mathlib.Core.Path.{sym, ◌∙◌}
 use borrow.Author.Tests.{lt-ltb, le-ltb}
 use Rattle.link.specs.Setup.{ranged_of}
-use borrow.Author.Rules.{rules}
 use Rattle.unit.proofs.setup.ranged.Goals as goal
 
 pub returns-then-setup-gt31 : goal.returns-then-setup-gt31

@@ -1,7 +1,6 @@
 -- `setup::settings_in_range` meets its contract.
 use mathlib.Core.Path.{sym, ◌∙◌}
 use Rattle.link.specs.Setup.{settings_in_range}
-use borrow.Author.Rules.{rules}
 use Rattle.unit.proofs.setup.settings_in_range.Goals as goal
 
 pub returns-then-in_range : goal.returns-then-in_range

@@ -1,5 +1,4 @@
 -- `state::refused` meets its contract.
-use borrow.Author.Rules.{rules}
 use Rattle.unit.proofs.state.refused.Goals as goal
 
 pub returns : goal.returns

@@ -1,6 +1,5 @@
 -- `state::start` meets its contract.
 use mathlib.Core.Path.{sym, ◌∙◌}
-use borrow.Author.Rules.{rules}
 use Rattle.unit.proofs.state.start.Goals as goal
 
 pub returns-in-Settings : goal.returns-in-Settings

@@ -1,5 +1,4 @@
 -- `step::is_quiet` meets its contract.
-use borrow.Author.Rules.{rules}
 use Rattle.unit.proofs.step.is_quiet.Goals as goal
 
 pub returns-in-Nothing : goal.returns-in-Nothing

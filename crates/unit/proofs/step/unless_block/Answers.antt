@@ -4,7 +4,7 @@ use Rattle.line.specs.declared.step.Out.{Out}
 use Rattle.line.specs.declared.step.Told.{Told}
 use Rattle.line.specs.declared.step.Remark.{Remark}
 use Rattle.link.specs.declared.Link.{Link}
-use Rattle.link.specs.Run.{Left, Telling, hearing, block_out, onward}
+use Rattle.link.specs.Run.{Left, hearing, block_out, onward}
 use Rattle.unit.proofs.Courses.{on_nothing, on_code, on_block}
 use Rattle.unit.proofs.step.unless_block.Goals as goal
 

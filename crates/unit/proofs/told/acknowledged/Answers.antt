@@ -1,6 +1,5 @@
 -- `told::acknowledged` meets its contract.
 use Rattle.link.specs.Run.{acknowledged}
-use borrow.Author.Rules.{rules}
 use Rattle.unit.proofs.told.acknowledged.Goals as goal
 
 pub returns-then-more : goal.returns-then-more

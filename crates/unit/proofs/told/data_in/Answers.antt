@@ -1,7 +1,6 @@
 -- `told::data_in` meets its contract.
 use mathlib.Core.Path.{sym}
 use Rattle.unit.proofs.Courses.{short_part, whole_part}
-use borrow.Author.Rules.{rules}
 use Rattle.unit.proofs.told.data_in.Goals as goal
 
 pub returns-then-end-lt10 : goal.returns-then-end-lt10

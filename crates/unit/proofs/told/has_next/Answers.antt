@@ -1,5 +1,4 @@
 -- `told::has_next` meets its contract.
-use borrow.Author.Rules.{rules}
 use Rattle.unit.proofs.told.has_next.Goals as goal
 
 pub returns-in-Nothing : goal.returns-in-Nothing

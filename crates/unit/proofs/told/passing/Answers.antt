@@ -1,5 +1,4 @@
 -- `told::passing` meets its contract.
-use borrow.Author.Rules.{rules}
 use Rattle.unit.proofs.told.passing.Goals as goal
 
 pub returns-then-ticks : goal.returns-then-ticks

@@ -1,6 +1,5 @@
 -- `told::putting_out` meets its contract.
 use Rattle.link.specs.Run.{putting_out}
-use borrow.Author.Rules.{rules}
 use Rattle.unit.proofs.told.putting_out.Goals as goal
 
 pub returns-then-more : goal.returns-then-more

@@ -1,6 +1,5 @@
 -- `told::tells` meets its contract.
 use Rattle.unit.proofs.Courses.{tells_so}
-use borrow.Author.Rules.{rules}
 use Rattle.unit.proofs.told.tells.Goals as goal
 
 pub returns-in-Nothing : goal.returns-in-Nothing

@@ -1,5 +1,4 @@
 -- `told::untold` meets its contract.
-use borrow.Author.Rules.{rules}
 use Rattle.unit.proofs.told.untold.Goals as goal
 
 pub returns : goal.returns

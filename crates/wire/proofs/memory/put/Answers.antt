@@ -1,4 +1,4 @@
-use Rattle.std.proofs.Common.{◌+◌, ◌≤◌, length, sym, ◌∙◌, ap, arith}
+use Rattle.std.proofs.Common.{◌+◌, ◌≤◌, length, sym, ◌∙◌, arith}
 use Rattle.wire.proofs.Lent.{copied, put_fits, put_none}
 use Rattle.wire.proofs.memory.put.Goals as goal
 

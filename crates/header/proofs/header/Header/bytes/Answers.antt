@@ -1,5 +1,4 @@
 use Rattle.header.specs.Header.{header_bytes}
-use borrow.Author.Rules.{rules}
 use Rattle.header.proofs.header.Header.bytes.Goals as goal
 
 pub returns : goal.returns

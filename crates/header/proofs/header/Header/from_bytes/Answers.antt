@@ -1,5 +1,4 @@
 use Rattle.header.specs.Header.{header_of}
-use borrow.Author.Rules.{rules}
 use Rattle.header.proofs.header.Header.from_bytes.Goals as goal
 
 pub returns : goal.returns

@@ -1,7 +1,6 @@
 -- `line::Line::ack_byte` meets its contract: the byte is ACK or not.
 use borrow.Author.Tests.{eq-eqb, ne_eqb}
 use Rattle.line.specs.Line.{ack_byte}
-use borrow.Author.Rules.{rules}
 use Rattle.line.proofs.line.Line.ack_byte.Goals as goal
 
 pub returns-then-b-eq-ACK : goal.returns-then-b-eq-ACK

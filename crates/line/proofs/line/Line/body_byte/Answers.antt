@@ -1,7 +1,6 @@
 -- `line::Line::body_byte` meets its contract: one of the N bytes, the high byte of the sum, or the low one.
 use borrow.Author.Tests.{lt-ltb, le-ltb, eq-eqb, ne_eqb}
 use Rattle.line.specs.Line.{body_byte}
-use borrow.Author.Rules.{rules}
 use Rattle.line.proofs.line.Line.body_byte.Goals as goal
 
 pub returns-then-got-n : goal.returns-then-got-n

@@ -1,6 +1,5 @@
 -- `line::Line::body_tick` meets its contract: T1 has run out or not.
 use mathlib.Core.Path.{sym, ◌∙◌}
-use borrow.Author.Rules.{rules}
 use Rattle.line.proofs.line.Line.body_tick.Goals as goal
 
 pub returns-in-RunsOut : goal.returns-in-RunsOut

@@ -1,5 +1,4 @@
 -- `line::Line::byte` meets its contract: in each arm the phase is known, and what the arm calls ensures is what `byte_at` says there.
-use borrow.Author.Rules.{rules}
 use Rattle.line.proofs.line.Line.byte.Goals as goal
 
 pub returns-in-Idle : goal.returns-in-Idle

@@ -1,5 +1,4 @@
 -- `line::Line::drained` meets its contract: only while draining does it change the line.
-use borrow.Author.Rules.{rules}
 use Rattle.line.proofs.line.Line.drained.Goals as goal
 
 pub returns-in-Draining : goal.returns-in-Draining

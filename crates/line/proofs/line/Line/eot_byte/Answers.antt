@@ -1,7 +1,6 @@
 -- `line::Line::eot_byte` meets its contract: the byte is EOT, ENQ or another.
 use borrow.Author.Tests.{eq-eqb, ne_eqb}
 use Rattle.line.specs.Line.{eot_byte}
-use borrow.Author.Rules.{rules}
 use Rattle.line.proofs.line.Line.eot_byte.Goals as goal
 
 pub returns-then-b-eq-EOT : goal.returns-then-b-eq-EOT

@@ -1,6 +1,5 @@
 -- `line::Line::eot_tick` meets its contract: T2 has run out or not.
 use mathlib.Core.Path.{sym, ◌∙◌}
-use borrow.Author.Rules.{rules}
 use Rattle.line.proofs.line.Line.eot_tick.Goals as goal
 
 pub returns-in-RunsOut : goal.returns-in-RunsOut

@@ -1,6 +1,5 @@
 -- `line::Line::give_way` meets its contract: master or slave.
 use Rattle.line.specs.Line.{give_way}
-use borrow.Author.Rules.{rules}
 use Rattle.line.proofs.line.Line.give_way.Goals as goal
 
 pub returns-then-limits : goal.returns-then-limits

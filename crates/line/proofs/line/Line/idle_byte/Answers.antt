@@ -1,7 +1,6 @@
 -- `line::Line::idle_byte` meets its contract: the byte is ENQ or not.
 use borrow.Author.Tests.{eq-eqb, ne_eqb}
 use Rattle.line.specs.Line.{idle_byte}
-use borrow.Author.Rules.{rules}
 use Rattle.line.proofs.line.Line.idle_byte.Goals as goal
 
 pub returns-then-b-eq-ENQ : goal.returns-then-b-eq-ENQ

@@ -1,7 +1,6 @@
 -- `line::Line::in_range` meets its contract, phase by phase.
 use borrow.Author.Tests.{le-leb, lt-leb}
 use Rattle.line.specs.Range.{body_in_range}
-use borrow.Author.Rules.{rules}
 use Rattle.line.proofs.line.Line.in_range.Goals as goal
 
 pub returns-in-WaitEot : goal.returns-in-WaitEot

@@ -2,7 +2,6 @@
 use borrow.Author.Tests.{lt-leb, le-leb}
 use Rattle.settings.specs.Panel.{between}
 use Rattle.line.specs.Line.{length_byte}
-use borrow.Author.Rules.{rules}
 use Rattle.line.proofs.line.Line.length_byte.Goals as goal
 
 pub returns-then-b-lt10 : goal.returns-then-b-lt10

@@ -1,7 +1,6 @@
 -- `line::Line::low_byte` meets its contract: the two sums are equal or not.
 use borrow.Author.Tests.{eq-eqb, ne_eqb}
 use Rattle.line.specs.Line.{low_byte}
-use borrow.Author.Rules.{rules}
 use Rattle.line.proofs.line.Line.low_byte.Goals as goal
 
 pub returns-then-received-counted : goal.returns-then-received-counted

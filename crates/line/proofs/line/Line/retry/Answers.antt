@@ -1,6 +1,5 @@
 -- `line::Line::retry` meets its contract: one attempt more, or none.
 use native.Mathlib.Omega.{arith}
-use borrow.Author.Rules.{rules}
 use Rattle.line.specs.Line.{retry_of}
 use Rattle.line.proofs.Retrying.{above, not_above}
 use Rattle.line.proofs.line.Line.retry.Goals as goal

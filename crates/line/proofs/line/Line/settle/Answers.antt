@@ -1,5 +1,4 @@
 -- `line::Line::settle` meets its contract, phase by phase.
-use borrow.Author.Rules.{rules}
 use Rattle.line.proofs.line.Line.settle.Goals as goal
 
 pub returns-in-Idle : goal.returns-in-Idle

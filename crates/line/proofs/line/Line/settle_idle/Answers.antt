@@ -1,6 +1,5 @@
 -- `line::Line::settle_idle` meets its contract: a block is held or not.
 use Rattle.line.specs.Line.{settle_idle}
-use borrow.Author.Rules.{rules}
 use Rattle.line.proofs.line.Line.settle_idle.Goals as goal
 
 pub returns-then-self : goal.returns-then-self

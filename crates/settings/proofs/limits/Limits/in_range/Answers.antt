@@ -2,7 +2,6 @@
 use borrow.Author.Tests.{le-leb, lt-leb}
 use Rattle.settings.specs.Panel.{between}
 use Rattle.settings.specs.Limits.{limits_in_range}
-use borrow.Author.Rules.{rules}
 use Rattle.settings.proofs.limits.Limits.in_range.Goals as goal
 
 pub returns-then-t1-lt1 : goal.returns-then-t1-lt1

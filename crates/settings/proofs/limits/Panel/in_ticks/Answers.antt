@@ -1,5 +1,4 @@
 -- `settings::Panel::in_ticks` meets its contract.
-use borrow.Author.Rules.{rules}
 use Rattle.settings.proofs.limits.Panel.in_ticks.Goals as goal
 
 pub returns : goal.returns

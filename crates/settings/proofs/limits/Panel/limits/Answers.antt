@@ -2,7 +2,6 @@
 use mathlib.Core.Path.{sym, ◌∙◌}
 use borrow.Author.Tests.{le-leb, lt-leb}
 use Rattle.settings.specs.Limits.{panel_in_range, taken_of}
-use borrow.Author.Rules.{rules}
 use Rattle.settings.proofs.limits.Panel.limits.Goals as goal
 
 pub returns-then-self-le31 : goal.returns-then-self-le31

@@ -1,6 +1,5 @@
 -- `settings::Ticks::tick` meets its contract: the test before the sum is the test of the sum.
 use mathlib.Core.Path.{sym}
-use borrow.Author.Rules.{rules}
 use Rattle.settings.proofs.Timers.{runs_out, runs}
 use Rattle.settings.proofs.panel.Ticks.tick.Goals as goal
 

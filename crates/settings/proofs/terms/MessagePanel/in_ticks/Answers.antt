@@ -1,5 +1,4 @@
 -- `settings::MessagePanel::in_ticks` meets its contract.
-use borrow.Author.Rules.{rules}
 use Rattle.settings.proofs.terms.MessagePanel.in_ticks.Goals as goal
 
 pub returns : goal.returns

@@ -2,7 +2,6 @@
 use mathlib.Core.Path.{sym, ◌∙◌}
 use borrow.Author.Tests.{le-leb, lt-leb}
 use Rattle.settings.specs.Terms.{agreed_of, message_panel_in_range}
-use borrow.Author.Rules.{rules}
 use Rattle.settings.proofs.terms.MessagePanel.terms.Goals as goal
 
 pub returns-then-self-le1 : goal.returns-then-self-le1

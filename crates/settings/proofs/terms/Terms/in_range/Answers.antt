@@ -2,7 +2,6 @@
 use borrow.Author.Tests.{le-leb, lt-leb}
 use Rattle.settings.specs.Panel.{between}
 use Rattle.settings.specs.Terms.{terms_in_range}
-use borrow.Author.Rules.{rules}
 use Rattle.settings.proofs.terms.Terms.in_range.Goals as goal
 
 pub returns-then-t3-lt10 : goal.returns-then-t3-lt10
