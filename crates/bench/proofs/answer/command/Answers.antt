@@ -12,7 +12,6 @@ use Rattle.bench.proofs.Joining.{few, by_call, by_run}
 use mathlib.Core.Bool.{true}
 use Rattle.exchange.specs.Request as request
 use Rattle.link.specs.History as call
-use borrow.Author.Rules.{rules}
 use Rattle.bench.proofs.answer.command.Goals as goal
 
 pub joined-requires : goal.joined-requires

@@ -1,5 +1,4 @@
 -- `early` meets its contract.
-use borrow.Author.Rules.{rules}
 use Rattle.bench.proofs.answer.early.Goals as goal
 
 pub returns-in-Start : goal.returns-in-Start

@@ -3,10 +3,8 @@ use Prim.Native.Nat.{ℕ}
 use mathlib.Core.Path.{sym, ap}
 use native.Mathlib.Omega.{arith}
 use lib.ListN.{take}
-use Rattle.link.specs.Run.{left}
 use native.Mathlib.Nat.{sub-zero}
 use lib.Seq.{take_all}
-use borrow.Author.Rules.{rules}
 use Rattle.bench.proofs.answer.first.Goals as goal
 
 pub returns-then-count-bytes : goal.returns-then-count-bytes

@@ -1,12 +1,10 @@
 -- `line` meets its contract.
 use mathlib.Core.Path.{refl, sym, ap, ◌∙◌}
 use lib.ListN.{length}
-use Rattle.link.specs.Run.{left}
 use Rattle.script.specs.Command.{Told}
 use Rattle.talk.specs.Answer.{done, command_done, early_shown, line_done}
 use lib.ListN.{replicate}
 use Rattle.scribe.proofs.Commanding.{read_length}
-use borrow.Author.Rules.{rules}
 use Rattle.bench.proofs.answer.line.Goals as goal
 
 pub slice_bounds-command-end : goal.slice_bounds-command-end

@@ -3,7 +3,6 @@ use mathlib.Core.Path.{ap}
 use Rattle.link.specs.declared.Answer.{Answer}
 use Rattle.talk.specs.Answer.{bench_of}
 use mathlib.Core.Bool.{false}
-use borrow.Author.Rules.{rules}
 use Rattle.bench.proofs.answer.nothing_started.Goals as goal
 
 pub returns : goal.returns

@@ -1,9 +1,7 @@
 -- `start` meets its contract.
 use mathlib.Core.Path.{sym, ◌∙◌}
 use borrow.Author.Tests.{eq-eqb, ne_eqb}
-use Rattle.link.specs.Run.{left}
 use Rattle.talk.specs.Answer.{start_shown}
-use borrow.Author.Rules.{rules}
 use Rattle.bench.proofs.answer.start.Goals as goal
 
 pub returns-then-number-eq0 : goal.returns-then-number-eq0

@@ -1,6 +1,5 @@
 -- `verdict` meets its contract.
 use mathlib.Core.Path.{sym, ◌∙◌}
-use borrow.Author.Rules.{rules}
 use Rattle.bench.proofs.answer.verdict.Goals as goal
 
 pub returns-in-NoPlace : goal.returns-in-NoPlace

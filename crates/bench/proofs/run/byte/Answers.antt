@@ -3,9 +3,8 @@ use Prim.Native.Nat.{◌-◌}
 use native.Mathlib.Omega.{arith}
 use lib.ListN.{length, take, drop}
 use Rattle.link.specs.Call.{byte_call}
-use Rattle.bench.proofs.Joining.{joined_back, few, fits}
+use Rattle.bench.proofs.Joining.{joined_back, few}
 use Rattle.link.specs.History as call
-use borrow.Author.Rules.{rules}
 use Rattle.bench.proofs.run.byte.Goals as goal
 
 pub joined-requires : goal.joined-requires

@@ -1,9 +1,8 @@
 -- `bytes` meets its contract.
-use Prim.Native.Nat.{◌+◌, ◌-◌, ◌≤◌}
-use mathlib.Core.Path.{◌≡◌, refl, sym, ap, ◌∙◌}
+use Prim.Native.Nat.{◌+◌}
+use mathlib.Core.Path.{refl, sym, ap, ◌∙◌}
 use native.Mathlib.Omega.{arith}
-use lib.ListN.{length, drop, get_or}
-use Rattle.link.specs.Run.{left}
+use lib.ListN.{drop, get_or}
 use Rattle.link.specs.History as call
 use Rattle.talk.specs.Run.{Running, running, bytes_run}
 use Rattle.bench.proofs.Joining.{fits, bytes_on, bytes_end}

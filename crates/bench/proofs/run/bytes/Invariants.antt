@@ -1,13 +1,7 @@
-use Prim.Native.Nat.{◌+◌, ◌-◌, ◌≤◌}
-use mathlib.Core.Path.{◌≡◌, refl, sym, ap, ◌∙◌}
-use native.Mathlib.Omega.{arith}
-use lib.ListN.{length, drop, get_or}
-use Rattle.link.specs.Run.{left}
-use Rattle.link.specs.History as call
-use Rattle.talk.specs.Run.{Running, running, bytes_run}
-use Rattle.bench.proofs.Joining.{fits, bytes_on, bytes_end}
-use Rattle.talk.specs.declared.Ran.{Ran}
-use borrow.Author.Rules.{rules}
+use Prim.Native.Nat.{◌-◌, ◌≤◌}
+use mathlib.Core.Path.{◌≡◌}
+use lib.ListN.{length, drop}
+use Rattle.talk.specs.Run.{running, bytes_run}
 use Rattle.bench.proofs.run.bytes.Given as goal
 
 abbrev pub invariant-loop-i : goal.invariant-loop-i

@@ -1,5 +1,4 @@
 -- `joined` meets its contract.
-use borrow.Author.Rules.{rules}
 use Rattle.bench.proofs.run.joined.Goals as goal
 
 pub returns : goal.returns

@@ -5,7 +5,6 @@ use lib.ListN.{length, take, drop}
 use Rattle.link.specs.Call.{tick_call}
 use Rattle.bench.proofs.Joining.{joined_back, few}
 use Rattle.link.specs.History as call
-use borrow.Author.Rules.{rules}
 use Rattle.bench.proofs.run.tick.Goals as goal
 
 pub joined-requires : goal.joined-requires

@@ -1,9 +1,7 @@
 -- `ticks` meets its contract.
-use Prim.Native.Nat.{◌-◌, ◌≤◌}
-use mathlib.Core.Path.{◌≡◌, refl, sym, ap, ◌∙◌}
+use Prim.Native.Nat.{◌-◌}
+use mathlib.Core.Path.{refl, sym, ap, ◌∙◌}
 use native.Mathlib.Omega.{arith}
-use lib.ListN.{length}
-use Rattle.link.specs.Run.{left}
 use Rattle.link.specs.History as call
 use Rattle.talk.specs.Run.{Running, running, ticks_run}
 use Rattle.bench.proofs.Joining.{fits, ticks_on, ticks_end}

@@ -1,13 +1,7 @@
-use Prim.Native.Nat.{◌-◌, ◌≤◌}
-use mathlib.Core.Path.{◌≡◌, refl, sym, ap, ◌∙◌}
-use native.Mathlib.Omega.{arith}
+use Prim.Native.Nat.{◌≤◌}
+use mathlib.Core.Path.{◌≡◌}
 use lib.ListN.{length}
-use Rattle.link.specs.Run.{left}
-use Rattle.link.specs.History as call
-use Rattle.talk.specs.Run.{Running, running, ticks_run}
-use Rattle.bench.proofs.Joining.{fits, ticks_on, ticks_end}
-use Rattle.talk.specs.declared.Ran.{Ran}
-use borrow.Author.Rules.{rules}
+use Rattle.talk.specs.Run.{running, ticks_run}
 use Rattle.bench.proofs.run.ticks.Given as goal
 
 abbrev pub invariant-loop-left : goal.invariant-loop-left
