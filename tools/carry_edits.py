@@ -107,6 +107,9 @@ def turn(root, top):
 USE = re.compile(r'^[ \t]*(?:pub )?((?:ghost )?use) ([\w.]+?)(?:\.\{([^}]*)\}|::\{([^}]*)\}|( as [^;\n]*))?;?[ \t]*$', re.M)
 
 
+ALIAS = re.compile(r'^(?:ghost )?use [\w.]+ as [^;\n]*', re.M)
+
+
 def imports(text):
     """What a text imports, in order: (word, path) and the names of it."""
     found = collections.OrderedDict()
@@ -232,10 +235,16 @@ PRELUDE = 'Rattle.std.specs.Prelude'
 def more_imports(base, changed, stands):
     """Pairs that add to the text as it stands today what the changed text imports and the base does not; and what has no place."""
     had = {n for ns in imports(base).values() for n in ns} | {n for ns in imports(stands).values() for n in ns}
-    out, lost = collections.OrderedDict(), []
+    out, lost = collections.OrderedDict(), [m.group(0) for m in ALIAS.finditer(changed) if m.group(0) not in base]
     for (word, module), ns in imports(changed).items():
         for n in ns:
             if n in had:
+                continue
+            old, _, other = n.partition(' as ')
+            line = re.search(rf'^{word} {re.escape(module)}\.\{{.*\b{other}\b.*$', stands, re.M) if other else None
+            if line:
+                # another thing under a name that the text has
+                out[line.group(0)] = [re.sub(rf'\b{other}\b', n, line.group(0))]
                 continue
             heads = [f'{word} {m}.{{' for m in ([module] + [PRELUDE] * (module in WORDS))]
             head = next((h for h in heads if stands.count(h) == 1), None)
@@ -243,7 +252,7 @@ def more_imports(base, changed, stands):
                 out.setdefault(head, []).append(n)
             else:
                 lost.append(f'{word} {module} {n}')
-    return [(h, h + ', '.join(ns) + ', ') for h, ns in out.items()], lost
+    return [(h, ns[0] if ns[0].startswith(h[:h.index('.{')]) else h + ', '.join(ns) + ', ') for h, ns in out.items()], lost
 
 
 def main():
