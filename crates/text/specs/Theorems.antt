@@ -1,8 +1,19 @@
 -- What is proved of the definitions of this crate, over all inputs: they say what 01 says. Each proof is in `proofs/`.
 use Rattle.std.specs.Prelude.{ℕ, ◌+◌, ◌-◌, ◌*◌, ◌%◌, ◌^◌, ◌≤◌, ◌<◌, ◌≡◌, true, List, [], ◌∷◌, ◌++◌, ◌↔◌, ◌⊎◌, length, get_or}
+use Rattle.text.specs.Find.{index_of}
 use Rattle.text.specs.Field.{field_of, behind_of, letter_of}
 use Rattle.text.specs.Number.{number_of}
 use Rattle.text.specs.Hex.{is_data, data_of}
+
+-- ---- where a byte stands
+
+-- a text without the byte b
+abbrev pub Lacks : ℕ → List ℕ → Type 0
+Lacks b text = (i : ℕ) → i < length text → get_or text i 0 ≡ b → ⊥
+
+-- in such a text b is said to stand at the end; with a b and more behind it, b stands where the text ends, whatever follows
+abbrev pub IndexExactly : Type 0
+IndexExactly = (b : ℕ) (text more : List ℕ) → Lacks b text → (index_of b text ≡ length text) × (index_of b (text ++ (b ∷ more)) ≡ length text)
 
 -- ---- fields
 
