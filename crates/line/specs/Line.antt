@@ -1,12 +1,10 @@
 -- The line as a function on its states (E4 5.8; 01, "The line"): what a byte, a tick, drained, an ask, a
 -- withdrawal and the settling step do.
-use Rattle.std.specs.Prelude.{ℕ, ◌+◌, Bool, true, false, cond, ◌||◌, List, set, ltb, eqb}
+use Rattle.std.specs.Prelude.{ℕ, ◌+◌, Bool, true, false, cond, ◌||◌, List, set, ltb, eqb, Option, Some, None}
 use Rattle.wire.specs.Bytes.{pair_of}
 use Rattle.wire.specs.Sum.{sum_with}
 use Rattle.settings.specs.Panel.{between}
 use Rattle.settings.specs.Timer.{ticked}
-use Rattle.settings.specs.declared.timer.Timer.{Timer}
-use Rattle.settings.specs.declared.timer.Timer.TheVariants.{RunsOut, Runs}
 use Rattle.line.specs.Codes.{ENQ, EOT, ACK, NAK}
 use Rattle.line.specs.declared.phase.Arrival.{Arrival}
 use Rattle.line.specs.declared.phase.Phase.{Phase}
@@ -108,14 +106,14 @@ unfoldable pub ack_byte : Limits → Line → ℕ → ℕ → Step
 ack_byte c l tries b = cond (eqb b ACK) (succeeds l) (retry_of c l tries)
 
 -- Waiting for EOT, a tick: "Beyond T2: retry." What the tick made of the timer is given.
-abbrev pub eot_tick : Limits → Line → ℕ → Timer → Step
-eot_tick c l tries RunsOut = retry_of c l tries
-eot_tick c l tries (Runs timer) = goes l (WaitEot timer tries) Nothing
+abbrev pub eot_tick : Limits → Line → ℕ → Option ℕ → Step
+eot_tick c l tries None = retry_of c l tries
+eot_tick c l tries (Some timer) = goes l (WaitEot timer tries) Nothing
 
 -- Waiting for ACK, a tick: ".. or T2 exceeded: retry."
-abbrev pub ack_tick : Limits → Line → ℕ → Timer → Step
-ack_tick c l tries RunsOut = retry_of c l tries
-ack_tick c l tries (Runs timer) = goes l (WaitAck timer tries) Nothing
+abbrev pub ack_tick : Limits → Line → ℕ → Option ℕ → Step
+ack_tick c l tries None = retry_of c l tries
+ack_tick c l tries (Some timer) = goes l (WaitAck timer tries) Nothing
 
 -- ---- receiving
 
@@ -170,19 +168,19 @@ abbrev pub naks : Line → Remark → Step
 naks l why = remarks l Idle (Code NAK) why
 
 -- Waiting for length, a tick: "Beyond T2: NAK."
-abbrev pub length_tick : Line → Timer → Step
-length_tick l RunsOut = naks l remark.NoLength
-length_tick l (Runs timer) = goes l (WaitLength timer) Nothing
+abbrev pub length_tick : Line → Option ℕ → Step
+length_tick l None = naks l remark.NoLength
+length_tick l (Some timer) = goes l (WaitLength timer) Nothing
 
 -- Body, a tick: "Beyond T1: NAK."
-abbrev pub body_tick : Line → Arrival → Timer → Step
-body_tick l a RunsOut = naks l remark.Gap
-body_tick l a (Runs timer) = goes l (Body timer a) Nothing
+abbrev pub body_tick : Line → Arrival → Option ℕ → Step
+body_tick l a None = naks l remark.Gap
+body_tick l a (Some timer) = goes l (Body timer a) Nothing
 
 -- Silence, a tick: "beyond T1: NAK."
-abbrev pub silence_tick : Line → Fault → Timer → Step
-silence_tick l fault RunsOut = naks l (remark.Bad fault)
-silence_tick l fault (Runs timer) = goes l (Silence timer fault) Nothing
+abbrev pub silence_tick : Line → Fault → Option ℕ → Step
+silence_tick l fault None = naks l (remark.Bad fault)
+silence_tick l fault (Some timer) = goes l (Silence timer fault) Nothing
 
 -- ---- the calls
 

@@ -1,4 +1,5 @@
 -- The settings of the transactions are taken exactly if each is in its range. Assumes nothing.
+use Rattle.std.specs.Prelude.{Option, Some, None}
 use mathlib.Core.Path.{◌≡◌, refl}
 use mathlib.Core.Bool.{true, cond, ◌&&◌}
 use mathlib.Core.Logic.{◌↔◌}
@@ -12,8 +13,7 @@ use Rattle.settings.specs.Theorems.{FitsTerms, TermsInRange, terms_in_ticks}
 use Rattle.settings.proofs.Panels.{in_between}
 use Rattle.settings.proofs.Taking.{zero_four}
 use Rattle.settings.specs.declared.terms.MessagePanel.{MessagePanel}
-use Rattle.settings.specs.declared.terms.Agreed.{Agreed}
-use Rattle.settings.specs.declared.terms.Agreed.TheVariants as agreed
+use Rattle.settings.specs.declared.terms.Terms.{Terms}
 
 pub fits_terms : (p : MessagePanel) → message_panel_in_range p ≡ true ↔ FitsTerms p
 unfolding message_panel_in_range
@@ -40,9 +40,9 @@ fits_terms p =
     )
 
 -- what holds of the settings that are taken, and of those that are not
-by_terms : (p : MessagePanel) (P : Agreed → Type 0) → (FitsTerms p → P (agreed.Terms (terms_of p))) → ((FitsTerms p → ⊥) → P agreed.OutOfRange) → P (agreed_of p)
+by_terms : (p : MessagePanel) (P : Option Terms → Type 0) → (FitsTerms p → P (Some (terms_of p))) → ((FitsTerms p → ⊥) → P None) → P (agreed_of p)
 unfolding agreed_of
-by_terms p P f n = judged (message_panel_in_range p) (fits_terms p) (λ t. P (cond t (agreed.Terms (terms_of p)) agreed.OutOfRange)) f n
+by_terms p P f n = judged (message_panel_in_range p) (fits_terms p) (λ t. P (cond t (Some (terms_of p)) None)) f n
 
 in_range : (p : MessagePanel) → FitsTerms p → terms_in_range (terms_of p) ≡ true
 unfolding terms_in_range between
@@ -52,7 +52,7 @@ in_range p f =
 pub terms_in_range_lem : TermsInRange
 terms_in_range_lem p =
     record {
-      taken = λ f. by_terms p (λ t. t ≡ agreed.Terms (terms_in_ticks p)) (λ _. refl) (λ n. absurd (n f));
+      taken = λ f. by_terms p (λ t. t ≡ Some (terms_in_ticks p)) (λ _. refl) (λ n. absurd (n f));
       four = by_terms p (λ t. agreed_number t ≡ 4 ↔ (FitsTerms p → ⊥)) (λ f. (λ e. absurd (zero_four e), λ n. absurd (n f))) (λ n. (λ e. n, λ _. refl));
       in_range = in_range p;
       check = (eqb-true p.duplicates 1, eq-eqb p.duplicates 1);

@@ -1,4 +1,5 @@
 -- Settings are taken exactly if each is in its range. Assumes nothing.
+use Rattle.std.specs.Prelude.{Option, Some, None}
 use Prim.Native.Nat.{ℕ}
 use mathlib.Core.Path.{◌≡◌, refl}
 use mathlib.Core.Bool.{true, cond}
@@ -12,8 +13,7 @@ use Rattle.settings.specs.Limits.{panel_in_range, limits_of, taken_of, taken_num
 use Rattle.settings.specs.Theorems.{Fits, TakenInRange, limits_in_ticks}
 use Rattle.settings.proofs.Panels.{in_between}
 use Rattle.settings.specs.declared.limits.Panel.{Panel}
-use Rattle.settings.specs.declared.limits.Taken.{Taken}
-use Rattle.settings.specs.declared.limits.Taken.TheVariants as taken
+use Rattle.settings.specs.declared.limits.Limits.{Limits}
 
 pub fits : (p : Panel) → panel_in_range p ≡ true ↔ Fits p
 unfolding panel_in_range
@@ -26,9 +26,9 @@ fits p =
     )
 
 -- what holds of the settings that are taken, and of those that are not
-by_fits : (p : Panel) (P : Taken → Type 0) → (Fits p → P (taken.Limits (limits_of p))) → ((Fits p → ⊥) → P taken.OutOfRange) → P (taken_of p)
+by_fits : (p : Panel) (P : Option Limits → Type 0) → (Fits p → P (Some (limits_of p))) → ((Fits p → ⊥) → P None) → P (taken_of p)
 unfolding taken_of
-by_fits p P f n = judged (panel_in_range p) (fits p) (λ t. P (cond t (taken.Limits (limits_of p)) taken.OutOfRange)) f n
+by_fits p P f n = judged (panel_in_range p) (fits p) (λ t. P (cond t (Some (limits_of p)) None)) f n
 
 in_range : (p : Panel) → Fits p → limits_in_range (limits_of p) ≡ true
 unfolding limits_in_range between
@@ -42,7 +42,7 @@ zero_four e = omega arith
 pub taken_in_range : TakenInRange
 taken_in_range p =
     record {
-      taken = λ f. by_fits p (λ t. t ≡ taken.Limits (limits_in_ticks p)) (λ _. refl) (λ n. absurd (n f));
+      taken = λ f. by_fits p (λ t. t ≡ Some (limits_in_ticks p)) (λ _. refl) (λ n. absurd (n f));
       four = by_fits p (λ t. taken_number t ≡ 4 ↔ (Fits p → ⊥)) (λ f. (λ e. absurd (zero_four e), λ n. absurd (n f))) (λ n. (λ e. n, λ _. refl));
       in_range = in_range p;
     }

@@ -1,10 +1,8 @@
 -- The settings of the line (01, "Settings and time").
-use Rattle.std.specs.Prelude.{ℕ, Bool, cond, ◌&&◌, leb}
+use Rattle.std.specs.Prelude.{ℕ, Bool, cond, ◌&&◌, leb, Option, Some, None}
 use Rattle.settings.specs.Panel.{between, tenths_ticks, fifths_ticks, tenths_in_range, fifths_in_range}
 use Rattle.settings.specs.declared.limits.Panel.{Panel}
 use Rattle.settings.specs.declared.limits.Limits.{Limits}
-use Rattle.settings.specs.declared.limits.Taken.{Taken}
-use Rattle.settings.specs.declared.limits.Taken.TheVariants as taken
 
 -- "In all rules and limits T1 to T4 mean ticks."
 abbrev pub limits_of : Panel → Limits
@@ -14,13 +12,13 @@ limits_of p = record { t1 = tenths_ticks p.t1; t2 = fifths_ticks p.t2; rty = p.r
 unfoldable pub panel_in_range : Panel → Bool
 panel_in_range p = tenths_in_range p.t1 && fifths_in_range p.t2 && leb p.rty 31
 
-unfoldable pub taken_of : Panel → Taken
-taken_of p = cond (panel_in_range p) (taken.Limits (limits_of p)) taken.OutOfRange
+unfoldable pub taken_of : Panel → Option Limits
+taken_of p = cond (panel_in_range p) (Some (limits_of p)) None
 
 -- refusal 4: "setting out of range"
-abbrev pub taken_number : Taken → ℕ
-taken_number (taken.Limits c) = 0
-taken_number taken.OutOfRange = 4
+abbrev pub taken_number : Option Limits → ℕ
+taken_number (Some c) = 0
+taken_number None = 4
 
 -- the ranges of docs/STATE.md, for the limits that a state holds
 unfoldable pub limits_in_range : Limits → Bool

@@ -1,10 +1,8 @@
 -- The settings of the message protocol (01, "Settings and time").
-use Rattle.std.specs.Prelude.{ℕ, Bool, cond, ◌&&◌, leb, eqb}
+use Rattle.std.specs.Prelude.{ℕ, Bool, cond, ◌&&◌, leb, eqb, Option, Some, None}
 use Rattle.settings.specs.Panel.{between, seconds_ticks, seconds_in_range}
 use Rattle.settings.specs.declared.terms.MessagePanel.{MessagePanel}
 use Rattle.settings.specs.declared.terms.Terms.{Terms}
-use Rattle.settings.specs.declared.terms.Agreed.{Agreed}
-use Rattle.settings.specs.declared.terms.Agreed.TheVariants as agreed
 
 -- "In all rules and limits T1 to T4 mean ticks."; the duplicate check is on at 1
 abbrev pub terms_of : MessagePanel → Terms
@@ -14,13 +12,13 @@ terms_of p = record { t3 = seconds_ticks p.t3; t4 = seconds_ticks p.t4; device =
 unfoldable pub message_panel_in_range : MessagePanel → Bool
 message_panel_in_range p = seconds_in_range p.t3 && seconds_in_range p.t4 && leb p.device 32767 && leb p.duplicates 1
 
-unfoldable pub agreed_of : MessagePanel → Agreed
-agreed_of p = cond (message_panel_in_range p) (agreed.Terms (terms_of p)) agreed.OutOfRange
+unfoldable pub agreed_of : MessagePanel → Option Terms
+agreed_of p = cond (message_panel_in_range p) (Some (terms_of p)) None
 
 -- refusal 4: "setting out of range"
-abbrev pub agreed_number : Agreed → ℕ
-agreed_number (agreed.Terms c) = 0
-agreed_number agreed.OutOfRange = 4
+abbrev pub agreed_number : Option Terms → ℕ
+agreed_number (Some c) = 0
+agreed_number None = 4
 
 -- the ranges of docs/STATE.md, for the terms that a state holds
 unfoldable pub terms_in_range : Terms → Bool

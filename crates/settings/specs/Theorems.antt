@@ -1,5 +1,5 @@
 -- What is proved of the definitions of this crate, over all inputs. Each proof is in `proofs/`.
-use Rattle.std.specs.Prelude.{ℕ, suc, zero, ◌*◌, ◌≤◌, ◌≡◌, true, ◌↔◌, eqb}
+use Rattle.std.specs.Prelude.{ℕ, suc, zero, ◌*◌, ◌≤◌, ◌≡◌, true, ◌↔◌, eqb, Option, Some, None}
 use Rattle.settings.specs.Panel.{tenths_ticks, fifths_ticks, seconds_ticks, tenths_in_range, fifths_in_range, seconds_in_range}
 use Rattle.settings.specs.Timer.{ticked}
 use Rattle.settings.specs.Limits.{limits_of, taken_of, taken_number, limits_in_range}
@@ -10,12 +10,8 @@ use Rattle.settings.specs.declared.panel.Seconds.{Seconds}
 use Rattle.settings.specs.declared.panel.Ticks.{Ticks}
 use Rattle.settings.specs.declared.limits.Panel.{Panel}
 use Rattle.settings.specs.declared.limits.Limits.{Limits}
-use Rattle.settings.specs.declared.limits.Taken.TheVariants as taken
 use Rattle.settings.specs.declared.terms.MessagePanel.{MessagePanel}
 use Rattle.settings.specs.declared.terms.Terms.{Terms}
-use Rattle.settings.specs.declared.terms.Agreed.TheVariants as agreed
-use Rattle.settings.specs.declared.timer.Timer.{Timer}
-use Rattle.settings.specs.declared.timer.Timer.TheVariants.{RunsOut, Runs}
 
 -- 01's table of settings: steps of 0.1 s, 0.2 s and 1 s in ticks of 0.1 s, and the ranges
 pub record PanelTable : Type 0 where
@@ -30,21 +26,21 @@ pub record PanelTable : Type 0 where
   pub t3_at_45 : (seconds_ticks (record { 0 = 45 })).0 ≡ 450
 
 -- a timer that was started, after n ticks
-abbrev pub again : Ticks → Timer → Timer
-again limit RunsOut = RunsOut
-again limit (Runs timer) = ticked limit timer
+abbrev pub again : Ticks → Option ℕ → Option ℕ
+again limit None = None
+again limit (Some timer) = ticked limit timer
 
-unfoldable pub after_ticks : Ticks → ℕ → Timer
-after_ticks limit zero = Runs 0
+unfoldable pub after_ticks : Ticks → ℕ → Option ℕ
+after_ticks limit zero = Some 0
 after_ticks limit (suc n) = again limit (after_ticks limit n)
 
 -- "A timer starts at 0, each later tick adds 1, and it runs out on the tick that makes it exceed its limit"
 abbrev pub TimerRunsOut : Type 0
 TimerRunsOut =
-    ((limit : Ticks) (n : ℕ) → n ≤ limit.0 → after_ticks limit n ≡ Runs n)
-    × ((limit : Ticks) → after_ticks limit (suc limit.0) ≡ RunsOut)
+    ((limit : Ticks) (n : ℕ) → n ≤ limit.0 → after_ticks limit n ≡ Some n)
+    × ((limit : Ticks) → after_ticks limit (suc limit.0) ≡ None)
     -- one that was set beyond its limit, which none comes to that was started, runs out on the next
-    × ((limit : Ticks) (timer : ℕ) → limit.0 ≤ timer → ticked limit timer ≡ RunsOut)
+    × ((limit : Ticks) (timer : ℕ) → limit.0 ≤ timer → ticked limit timer ≡ None)
 
 -- the ranges of 01's table for the line's settings
 pub record Fits (p : Panel) : Type 0 where
@@ -61,7 +57,7 @@ limits_in_ticks p = record { t1 = record { 0 = p.t1.0 }; t2 = record { 0 = p.t2.
 -- refusal 4, "setting out of range", is given exactly when one is; else the settings are taken, in ticks, and in the ranges of
 -- docs/STATE.md
 pub record SettingsTaken (p : Panel) : Type 0 where
-  pub taken : Fits p → taken_of p ≡ taken.Limits (limits_in_ticks p)
+  pub taken : Fits p → taken_of p ≡ Some (limits_in_ticks p)
   pub four : taken_number (taken_of p) ≡ 4 ↔ (Fits p → ⊥)
   pub in_range : Fits p → limits_in_range (limits_of p) ≡ true
 
@@ -90,7 +86,7 @@ terms_in_ticks p = record {
 -- refusal 4 again: given exactly when one of these is out of range; else they are taken, in ticks, and in the ranges of
 -- docs/STATE.md
 pub record TermsTaken (p : MessagePanel) : Type 0 where
-  pub taken : FitsTerms p → agreed_of p ≡ agreed.Terms (terms_in_ticks p)
+  pub taken : FitsTerms p → agreed_of p ≡ Some (terms_in_ticks p)
   pub four : agreed_number (agreed_of p) ≡ 4 ↔ (FitsTerms p → ⊥)
   pub in_range : FitsTerms p → terms_in_range (terms_of p) ≡ true
   -- "duplicate check on/off 0, 1"

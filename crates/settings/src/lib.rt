@@ -11,7 +11,6 @@ mod panel;
 mod terms;
 mod timer;
 
-pub use limits::{Limits, Panel, Taken};
+pub use limits::{Limits, Panel};
 pub use panel::{Fifths, Seconds, Tenths, Ticks};
-pub use terms::{Agreed, MessagePanel, Terms};
-pub use timer::Timer;
+pub use terms::{MessagePanel, Terms};

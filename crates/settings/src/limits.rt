@@ -2,7 +2,7 @@
 ghost use Rattle.std.specs.Prelude.{◌≡◌};
 ghost use Rattle.settings.specs.Limits.{limits_in_range, limits_of, taken_of};
 
-use crate::panel::{Fifths, Tenths, Ticks};
+use crate::panel::{Fifths, Tenths, Ticks, between};
 
 // As on the panel.
 #[derive(Clone, Copy)]
@@ -23,13 +23,6 @@ pub struct Limits {
     pub master: bool,
 }
 
-// What taking the settings answers.
-#[derive(Clone, Copy)]
-pub enum Taken {
-    Limits(Limits),
-    OutOfRange,
-}
-
 impl Panel {
     fn in_ticks(self) -> Limits
         ensures { result ≡ limits_of self }
@@ -43,38 +36,24 @@ impl Panel {
     }
 
     // The limits that these settings are, if each is in its range.
-    pub fn limits(self) -> Taken
+    #[tactic(auto, unfolding(crate::specs::Limits::taken_of, crate::specs::Limits::panel_in_range))]
+    pub fn limits(self) -> Option<Limits>
         ensures { result ≡ taken_of self }
     {
-        if self.t1.in_range() {
-            if self.t2.in_range() {
-                if self.rty <= 31 {
-                    return Taken::Limits(self.in_ticks());
-                }
-            }
+        if self.t1.in_range() && self.t2.in_range() && self.rty <= 31 {
+            Some(self.in_ticks())
+        } else {
+            None
         }
-        Taken::OutOfRange
     }
 }
 
 impl Limits {
     // Whether the limits of a state are in the ranges of docs/STATE.md.
+    #[tactic(auto, unfolding(crate::specs::Limits::limits_in_range))]
     pub fn in_range(self) -> bool
         ensures { result ≡ limits_in_range self }
     {
-        let t1 = self.t1.count();
-        let t2 = self.t2.count();
-        let rty = self.rty;
-        if t1 < 1 {
-            false
-        } else if 100 < t1 {
-            false
-        } else if t2 < 2 {
-            false
-        } else if 250 < t2 {
-            false
-        } else {
-            rty <= 31
-        }
+        between(1, self.t1.count(), 100) && between(2, self.t2.count(), 250) && self.rty <= 31
     }
 }

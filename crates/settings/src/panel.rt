@@ -19,23 +19,24 @@ pub struct Seconds(pub u16);
 pub struct Ticks(u32);
 
 // Whether `number` is one of `low` to `high`.
-fn between(low: u16, number: u16, high: u16) -> bool
+#[tactic(auto, unfolding(crate::specs::Panel::between))]
+pub(crate) fn between(low: u32, number: u32, high: u32) -> bool
     ensures { result ≡ Rattle.settings.specs.Panel.between low number high }
 {
-    if low <= number { number <= high } else { false }
+    low <= number && number <= high
 }
 
 impl Tenths {
     pub fn ticks(self) -> Ticks
         ensures { result ≡ tenths_ticks self }
     {
-        Ticks(self.0 as u32)
+        Ticks(u32::from(self.0))
     }
 
     pub fn in_range(self) -> bool
         ensures { result ≡ tenths_in_range self }
     {
-        between(1, self.0, 100)
+        between(1, u32::from(self.0), 100)
     }
 }
 
@@ -43,13 +44,13 @@ impl Fifths {
     pub fn ticks(self) -> Ticks
         ensures { result ≡ fifths_ticks self }
     {
-        Ticks(self.0 as u32 * 2)
+        Ticks(u32::from(self.0) * 2)
     }
 
     pub fn in_range(self) -> bool
         ensures { result ≡ fifths_in_range self }
     {
-        between(1, self.0, 125)
+        between(1, u32::from(self.0), 125)
     }
 }
 
@@ -57,13 +58,13 @@ impl Seconds {
     pub fn ticks(self) -> Ticks
         ensures { result ≡ seconds_ticks self }
     {
-        Ticks(self.0 as u32 * 10)
+        Ticks(u32::from(self.0) * 10)
     }
 
     pub fn in_range(self) -> bool
         ensures { result ≡ seconds_in_range self }
     {
-        between(1, self.0, 120)
+        between(1, u32::from(self.0), 120)
     }
 }
 
@@ -72,7 +73,7 @@ impl Ticks {
     pub fn count(self) -> u32
         ensures { result ≡ self.0 }
     {
-        let ticks = self.0;
-        ticks
+        let Ticks(count) = self;
+        count
     }
 }

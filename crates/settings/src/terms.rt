@@ -2,7 +2,7 @@
 ghost use Rattle.std.specs.Prelude.{◌≡◌};
 ghost use Rattle.settings.specs.Terms.{agreed_of, terms_in_range, terms_of};
 
-use crate::panel::{Seconds, Ticks};
+use crate::panel::{Seconds, Ticks, between};
 
 // As on the panel.
 #[derive(Clone, Copy)]
@@ -27,13 +27,6 @@ pub struct Terms {
     pub host: bool,
 }
 
-// What taking the settings answers.
-#[derive(Clone, Copy)]
-pub enum Agreed {
-    Terms(Terms),
-    OutOfRange,
-}
-
 impl MessagePanel {
     fn in_ticks(self) -> Terms
         ensures { result ≡ terms_of self }
@@ -48,40 +41,27 @@ impl MessagePanel {
     }
 
     // The terms that these settings are, if each is in its range.
-    pub fn terms(self) -> Agreed
+    #[tactic(auto, unfolding(crate::specs::Terms::agreed_of, crate::specs::Terms::message_panel_in_range))]
+    pub fn terms(self) -> Option<Terms>
         ensures { result ≡ agreed_of self }
     {
-        if self.t3.in_range() {
-            if self.t4.in_range() {
-                if self.device <= 32767 {
-                    if self.duplicates <= 1 {
-                        return Agreed::Terms(self.in_ticks());
-                    }
-                }
-            }
+        let times = self.t3.in_range() && self.t4.in_range();
+        if times && self.device <= 32767 && self.duplicates <= 1 {
+            Some(self.in_ticks())
+        } else {
+            None
         }
-        Agreed::OutOfRange
     }
 }
 
 impl Terms {
     // Whether the terms of a state are in the ranges of docs/STATE.md.
+    #[tactic(auto, unfolding(crate::specs::Terms::terms_in_range))]
     pub fn in_range(self) -> bool
         ensures { result ≡ terms_in_range self }
     {
-        let t3 = self.t3.count();
-        let t4 = self.t4.count();
-        let device = self.device;
-        if t3 < 10 {
-            false
-        } else if 1200 < t3 {
-            false
-        } else if t4 < 10 {
-            false
-        } else if 1200 < t4 {
-            false
-        } else {
-            device <= 32767
-        }
+        between(10, self.t3.count(), 1200)
+            && between(10, self.t4.count(), 1200)
+            && self.device <= 32767
     }
 }

@@ -4,24 +4,17 @@ ghost use Rattle.settings.specs.Timer.{ticked};
 
 use crate::panel::Ticks;
 
-// What a tick makes of a timer.
-#[derive(Clone, Copy)]
-pub enum Timer {
-    // It exceeds its limit.
-    RunsOut,
-    // It is within its limit, at so many ticks.
-    Runs(u32),
-}
-
 impl Ticks {
-    // One tick more on a timer whose limit this is. The test comes first: so the sum is within the limit.
-    pub fn tick(self, timer: u32) -> Timer
+    // One tick more on a timer whose limit this is: at how many ticks it is then, or none where it exceeds its limit. The test comes
+    // first: so the sum is within the limit.
+    #[tactic(auto, unfolding(crate::specs::Timer::ticked))]
+    pub fn tick(self, timer: u32) -> Option<u32>
         ensures { result ≡ ticked self timer }
     {
-        if self.count() <= timer {
-            Timer::RunsOut
+        if timer < self.count() {
+            Some(timer + 1)
         } else {
-            Timer::Runs(timer + 1)
+            None
         }
     }
 }
