@@ -15,14 +15,14 @@ use Rattle.wire.specs.Sum.{plain_sum, checksum_of}
 use Rattle.block.specs.Block.{with_sum}
 use Rattle.block.specs.Theorems.{OtherSum, OneSumBit, OneByte, flipped}
 use Rattle.block.specs.declared.Refusal.TheVariants.{ChecksumDiffers}
-use Rattle.block.specs.declared.Read.TheVariants.{Refused}
 use Rattle.block.proofs.Frames.{frame_body, frame_sum, frame_good}
 use Rattle.wire.proofs.Sums.{sum_never_wraps}
 use Rattle.block.proofs.Reading.{by_reading}
+use Rattle.std.specs.Prelude.{Err}
 
 pub other_sum : OtherSum
 other_sum bs s least most ne =
-    by_reading (with_sum bs s) (λ r. r ≡ Refused ChecksumDiffers)
+    by_reading (with_sum bs s) (λ r. r ≡ Err ChecksumDiffers)
     (λ bad. absurd (bad (frame_good bs s least most)))
     (λ g differ. refl)
     (λ g agree. absurd (ne (sym (frame_sum bs s) ∙ sym agree ∙ ap checksum_of (frame_body bs s))))

@@ -15,8 +15,10 @@ use Rattle.wire.specs.Sum.{checksum_of}
 use Rattle.block.specs.Block.{GoodLength, length_good, read_number, sums_agree, read_sized, read_of, data_in}
 use Rattle.block.specs.Theorems.{LengthExactly, GoodBlock, ReadRefuses, DataRead}
 use Rattle.block.specs.declared.Refusal.TheVariants.{BlockLength, ChecksumDiffers}
-use Rattle.block.specs.declared.Read.{Read}
-use Rattle.block.specs.declared.Read.TheVariants.{Block, Refused}
+use Rattle.std.specs.Prelude.{Err, Ok, Result}
+use Rattle.block.specs.Block.{was_read}
+use Rattle.block.specs.declared.Block.{Block}
+use Rattle.block.specs.declared.Refusal.{Refusal}
 
 pub good_length : (n given : ℕ) → length_good n given ≡ true ↔ GoodLength n given
 unfolding length_good
@@ -37,40 +39,49 @@ unfolding sums_agree
 sums_agree_lem line n = (λ e. eqb-true _ _ e, λ e. eq-eqb _ _ e)
 
 -- the three answers to a read
-pub by_reading : (line : List ℕ) (P : Read → Type 0) → ((GoodLength (get_or line 0 0) (length line - 3) → ⊥) → P (Refused BlockLength))
-    → (GoodLength (get_or line 0 0) (length line - 3) → (Agree line (get_or line 0 0) → ⊥) → P (Refused ChecksumDiffers))
-    → (GoodLength (get_or line 0 0) (length line - 3) → Agree line (get_or line 0 0) → P (Block (header_of (part 1 (get_or line 0 0 + 1) line)) (get_or line 0 0)))
+pub by_reading : (line : List ℕ) (P : Result Block Refusal → Type 0) → ((GoodLength (get_or line 0 0) (length line - 3) → ⊥) → P (Err BlockLength))
+    → (GoodLength (get_or line 0 0) (length line - 3) → (Agree line (get_or line 0 0) → ⊥) → P (Err ChecksumDiffers))
+    → (GoodLength (get_or line 0 0) (length line - 3) → Agree line (get_or line 0 0) → P (was_read (header_of (part 1 (get_or line 0 0 + 1) line)) (get_or line 0 0)))
     → P (read_of line)
 unfolding read_of read_sized
 by_reading line P bad differ agree =
-    judged (length_good n (length line - 3)) (good_length n (length line - 3)) (λ t. P (cond t (read_sized line n) (Refused BlockLength)))
-    (λ g. judged (sums_agree line n) (sums_agree_lem line n) (λ t. P (cond t (Block (header_of (part 1 (n + 1) line)) n) (Refused ChecksumDiffers))) (agree g) (differ g))
+    judged (length_good n (length line - 3)) (good_length n (length line - 3)) (λ t. P (cond t (read_sized line n) (Err BlockLength)))
+    (λ g. judged (sums_agree line n) (sums_agree_lem line n) (λ t. P (cond t (was_read (header_of (part 1 (n + 1) line)) n) (Err ChecksumDiffers))) (agree g) (differ g))
     bad
   where
     n : ℕ
     n = get_or line 0 0
 
 -- a line that is too short for a sum
-pub read_short : (line : List ℕ) → length line < 3 → read_of line ≡ Refused BlockLength
+pub read_short : (line : List ℕ) → length line < 3 → read_of line ≡ Err BlockLength
 read_short line h =
-    by_reading line (λ r. r ≡ Refused BlockLength) (λ bad. refl) (λ g ne. absurd (omega arith)) (λ g e. absurd (omega arith))
+    by_reading line (λ r. r ≡ Err BlockLength) (λ bad. refl) (λ g ne. absurd (omega arith)) (λ g e. absurd (omega arith))
+
+-- what was read says its header and its length
+abbrev length_in : Result Block Refusal → ℕ
+length_in (Ok b) = b.length
+length_in (Err r) = 0
+
+abbrev header_in : Header → Result Block Refusal → Header
+header_in h (Ok b) = b.header
+header_in h (Err r) = h
 
 -- a line reads as a block exactly where it is a good one, and then it says what its header says
-pub reads_as : (line : List ℕ) (h : Header) (n : ℕ) → (read_of line ≡ Block h n) ↔ (GoodBlock line n × (h ≡ header_of (part 1 (n + 1) line)))
+pub reads_as : (line : List ℕ) (h : Header) (n : ℕ) → (read_of line ≡ was_read h n) ↔ (GoodBlock line n × (h ≡ header_of (part 1 (n + 1) line)))
 reads_as line h n = (
-  by_reading line (λ r. r ≡ Block h n → GoodBlock line n × (h ≡ header_of (part 1 (n + 1) line)))
+  by_reading line (λ r. r ≡ was_read h n → GoodBlock line n × (h ≡ header_of (part 1 (n + 1) line)))
       (λ bad e. absurd (omega (arith, ap read_number e))) (λ g ne e. absurd (omega (arith, ap read_number e))) good,
-  λ w. by_reading line (λ r. r ≡ Block h n)
-      (λ bad. absurd (bad (at_n w).good)) (λ g ne. absurd (ne (at_n w).sums)) (λ g s. λ i. Block (says w i) (w.0.length_byte i)),
+  λ w. by_reading line (λ r. r ≡ was_read h n)
+      (λ bad. absurd (bad (at_n w).good)) (λ g ne. absurd (ne (at_n w).sums)) (λ g s. λ i. was_read (says w i) (w.0.length_byte i)),
 )
   where
     m : ℕ
     m = get_or line 0 0
 
-    good : GoodLength m (length line - 3) → Agree line m → Block (header_of (part 1 (m + 1) line)) m ≡ Block h n → GoodBlock line n × (h ≡ header_of (part 1 (n + 1) line))
+    good : GoodLength m (length line - 3) → Agree line m → was_read (header_of (part 1 (m + 1) line)) m ≡ was_read h n → GoodBlock line n × (h ≡ header_of (part 1 (n + 1) line))
     good g s e =
-        let size : m ≡ n = cc in
-        let says : h ≡ header_of (part 1 (m + 1) line) = cc in
+        let size : m ≡ n = ap (λ (r : Result Block Refusal). length_in r) e in
+        let says : h ≡ header_of (part 1 (m + 1) line) = sym (ap (λ (r : Result Block Refusal). header_in h r) e) in
         (subst (GoodBlock line) size (record { length_byte = refl; good = g; sums = s }), rw size at says)
 
     at_n : GoodBlock line n × (h ≡ header_of (part 1 (n + 1) line)) → GoodBlock line m
@@ -99,6 +110,6 @@ unfolding part
 data_read line = record {
   good = λ h n e.
       let size : n + 1 - 11 ≡ n - 10 = omega arith in
-      ap (λ (r : Read). data_in r line) e ∙ ap (λ (k : ℕ). take k (drop 11 line)) size;
-  refused = λ r e. ap (λ (x : Read). data_in x line) e;
+      ap (λ (r : Result Block Refusal). data_in r line) e ∙ ap (λ (k : ℕ). take k (drop 11 line)) size;
+  refused = λ r e. ap (λ (x : Result Block Refusal). data_in x line) e;
 }

@@ -12,11 +12,13 @@ use Rattle.header.proofs.Headers.{header_and_back}
 use Rattle.wire.specs.Sum.{checksum_of}
 use Rattle.block.specs.Block.{framed, block_of, GoodLength, read_of, data_in, write_of}
 use Rattle.block.specs.Theorems.{GoodBlock, ReadOfWritten}
-use Rattle.block.specs.declared.Read.{Read}
-use Rattle.block.specs.declared.Read.TheVariants.{Block}
 use Rattle.block.proofs.Frames.{frame_body, frame_sum, frame_good}
 use Rattle.block.proofs.Reading.{reads_as}
 use Rattle.block.proofs.Writing.{taken_good, taken_writes}
+use Rattle.std.specs.Prelude.{Result}
+use Rattle.block.specs.Block.{was_read}
+use Rattle.block.specs.declared.Block.{Block}
+use Rattle.block.specs.declared.Refusal.{Refusal}
 
 -- N bytes in a frame with their own sum are a good block
 framed_good : (bs : List ℕ) → 10 ≤ length bs → length bs ≤ 254 → GoodBlock (framed bs) (length bs)
@@ -30,7 +32,7 @@ module _ (n : ℕ) (h : Header) (d : List ℕ) (range : InRange h) (g : GoodLeng
   unfolding header_bytes
   body_length = omega (arith, length-append (header_bytes h) d)
 
-  pub read_back : read_of (block_of h d) ≡ Block h n
+  pub read_back : read_of (block_of h d) ≡ was_read h n
   unfolding framed header_of header_bytes
   read_back =
       let bs : List ℕ = header_bytes h ++ d in
@@ -48,5 +50,5 @@ read_of_written n m h d out range e =
     let line : List ℕ = take m (write_of n h d out).out in
     let g = taken_good n m h d out e in
     let block : line ≡ block_of h d = (taken_writes n m h d out e).block in
-    let reads : read_of line ≡ Block h n = ap read_of block ∙ read_back n h d range g in
-    (reads, ap (λ (r : Read). data_in r line) reads ∙ ap (part 11 (n + 1)) block ∙ data_back n h d range g)
+    let reads : read_of line ≡ was_read h n = ap read_of block ∙ read_back n h d range g in
+    (reads, ap (λ (r : Result Block Refusal). data_in r line) reads ∙ ap (part 11 (n + 1)) block ∙ data_back n h d range g)

@@ -1,4 +1,5 @@
 -- What a write answers and leaves (`specs/Block.antt`). Assumes nothing.
+use Rattle.std.specs.Prelude.{Ok, Err}
 use Prim.Native.Nat.{ℕ, ◌+◌, ◌≤◌, ◌<◌}
 use mathlib.Core.Path.{◌≡◌, refl, ap, ◌∙◌}
 use mathlib.Core.Bool.{true, cond}
@@ -15,7 +16,6 @@ use Rattle.wire.specs.Sum.{checksum_of}
 use Rattle.block.specs.Block.{framed, block_of, output_short, GoodLength, length_good, Writing, refused_write, taken_write, written_number, write_of}
 use Rattle.block.specs.Theorems.{WriteRefuses, RefusedWritesNothing, WritesOnly, TakenWrites}
 use Rattle.block.specs.declared.Refusal.TheVariants.{OutputShort, BlockLength}
-use Rattle.block.specs.declared.Written.TheVariants.{Bytes as Taken, Refused as NotWritten}
 use Rattle.block.proofs.Frames.{frame_length}
 use Rattle.block.proofs.Reading.{good_length}
 use Rattle.wire.proofs.Choice.{judged}
@@ -46,7 +46,7 @@ write_refuses n h d out = record {
   twelve = by_writing n h d out (λ w. (written_number w.answer ≡ 12) ↔ ((257 ≤ length out) × (GoodLength n (10 + length d) → ⊥)))
       (λ s. (λ e. absurd (omega arith), λ w. absurd (omega (arith, w.0)))) (λ l b. (λ e. (l, b), λ w. refl)) (λ l g. (λ e. absurd (omega arith), λ w. absurd (w.1 g)));
   thirteen = by_writing n h d out (λ w. written_number w.answer ≡ 13 → ⊥) (λ s e. omega arith) (λ l b e. omega arith) (λ l g e. omega arith);
-  taken = by_writing n h d out (λ w. (w.answer ≡ Taken (n + 3)) ↔ ((257 ≤ length out) × GoodLength n (10 + length d)))
+  taken = by_writing n h d out (λ w. (w.answer ≡ Ok (n + 3)) ↔ ((257 ≤ length out) × GoodLength n (10 + length d)))
       (λ s. (λ e. absurd (omega (arith, ap written_number e)), λ w. absurd (omega (arith, w.0))))
       (λ l b. (λ e. absurd (omega (arith, ap written_number e)), λ w. absurd (b w.1)))
       (λ l g. (λ e. (l, g), λ w. refl));
@@ -55,19 +55,19 @@ write_refuses n h d out = record {
 pub refused_writes_nothing : RefusedWritesNothing
 unfolding refused_write taken_write
 refused_writes_nothing n h d out r =
-    by_writing n h d out (λ w. w.answer ≡ NotWritten r → w.out ≡ out)
+    by_writing n h d out (λ w. w.answer ≡ Err r → w.out ≡ out)
     (λ s e. refl) (λ l b e. refl) (λ l g e. let z : ◌≡◌ {A = ℕ} 0 1 = cc in absurd (omega arith))
 
 -- a write that answers m bytes was the taken one
 by_taken : (n m : ℕ) (h : Header) (d out : List ℕ) (P : Writing → Type 0)
-    → (257 ≤ length out → GoodLength n (10 + length d) → n + 3 ≡ m → P (taken_write n h d out)) → (write_of n h d out).answer ≡ Taken m → P (write_of n h d out)
+    → (257 ≤ length out → GoodLength n (10 + length d) → n + 3 ≡ m → P (taken_write n h d out)) → (write_of n h d out).answer ≡ Ok m → P (write_of n h d out)
 unfolding refused_write taken_write
 by_taken n m h d out P taken =
-    by_writing n h d out (λ w. w.answer ≡ Taken m → P w)
+    by_writing n h d out (λ w. w.answer ≡ Ok m → P w)
     (λ s e. absurd (omega (arith, ap written_number e))) (λ l b e. absurd (omega (arith, ap written_number e))) (λ l g e. taken l g (cc))
 
 -- and had a good length
-pub taken_good : (n m : ℕ) (h : Header) (d out : List ℕ) → (write_of n h d out).answer ≡ Taken m → GoodLength n (10 + length d)
+pub taken_good : (n m : ℕ) (h : Header) (d out : List ℕ) → (write_of n h d out).answer ≡ Ok m → GoodLength n (10 + length d)
 taken_good n m h d out = by_taken n m h d out (λ w. GoodLength n (10 + length d)) (λ l g e. g)
 
 -- a block of n bytes is n + 3 on the line

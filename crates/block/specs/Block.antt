@@ -1,5 +1,5 @@
 -- A block alone (E4 5.6, 5.7; 01, "Block and header" and "Refusal numbers and notes").
-use Rattle.std.specs.Prelude.{ℕ, ◌+◌, ◌-◌, ◌≤◌, ◌≡◌, Bool, cond, ◌&&◌, List, [], ◌∷◌, ◌++◌, eqb, leb, ltb, length, get_or}
+use Rattle.std.specs.Prelude.{ℕ, ◌+◌, ◌-◌, ◌≤◌, ◌≡◌, Bool, cond, ◌&&◌, List, [], ◌∷◌, ◌++◌, eqb, leb, ltb, length, get_or, Result, Ok, Err}
 use Rattle.wire.specs.Bytes.{part, pair_of, halves_of}
 use Rattle.wire.specs.Lent.{on_front}
 use Rattle.wire.specs.Sum.{checksum_of}
@@ -8,10 +8,7 @@ use Rattle.header.specs.declared.header.Header.{Header}
 use Rattle.block.specs.Refusal.{refusal_number}
 use Rattle.block.specs.declared.Refusal.{Refusal}
 use Rattle.block.specs.declared.Refusal.TheVariants.{OutputShort, BlockLength, ChecksumDiffers}
-use Rattle.block.specs.declared.Read.{Read}
-use Rattle.block.specs.declared.Read.TheVariants.{Block, Refused}
-use Rattle.block.specs.declared.Written.{Written}
-use Rattle.block.specs.declared.Written.TheVariants.{Bytes, Refused as NotWritten}
+use Rattle.block.specs.declared.Block.{Block}
 
 -- N bytes on the line, between their length byte and a sum
 abbrev pub with_sum : List ℕ → ℕ → List ℕ
@@ -41,28 +38,32 @@ pub record GoodLength (n given : ℕ) : Type 0 where
 
 -- What a write leaves: its answer, and every byte of the output.
 pub record Writing : Type 0 where
-  pub answer : Written
+  pub answer : Result ℕ Refusal
   pub out : List ℕ
 
-abbrev pub writing : Written → List ℕ → Writing
+abbrev pub writing : Result ℕ Refusal → List ℕ → Writing
 writing w out = record { answer = w; out = out }
 
 -- the number that an answer to a write, or to a read, has in 01's table; 0 where it is no refusal
-abbrev pub written_number : Written → ℕ
-written_number (Bytes n) = 0
-written_number (NotWritten r) = refusal_number r
+abbrev pub written_number : Result ℕ Refusal → ℕ
+written_number (Ok n) = 0
+written_number (Err r) = refusal_number r
 
-abbrev pub read_number : Read → ℕ
-read_number (Block h n) = 0
-read_number (Refused r) = refusal_number r
+-- a header was read, and the block length N
+abbrev pub was_read : Header → ℕ → Result Block Refusal
+was_read h n = Ok (record { header = h; length = n })
+
+abbrev pub read_number : Result Block Refusal → ℕ
+read_number (Ok b) = 0
+read_number (Err r) = refusal_number r
 
 -- a refused write leaves the output as it was
 unfoldable pub refused_write : Refusal → List ℕ → Writing
-refused_write r out = writing (NotWritten r) out
+refused_write r out = writing (Err r) out
 
 -- a taken one answers the bytes it wrote, length byte and sum included, and changes no byte beyond them
 unfoldable pub taken_write : ℕ → Header → List ℕ → List ℕ → Writing
-taken_write n h d out = writing (Bytes (n + 3)) (on_front (block_of h d) out)
+taken_write n h d out = writing (Ok (n + 3)) (on_front (block_of h d) out)
 
 -- Writing a block of n bytes, a header and data: "1 (writing only), 12".
 unfoldable pub write_of : ℕ → Header → List ℕ → List ℕ → Writing
@@ -76,16 +77,16 @@ unfoldable pub sums_agree : List ℕ → ℕ → Bool
 sums_agree line n = eqb (checksum_of (part 1 (n + 1) line)) (pair_of (get_or line (n + 1) 0) (get_or line (n + 2) 0))
 
 -- Reading a block whose length N is good, as it stood on the line. A good block gives its header and N.
-unfoldable pub read_sized : List ℕ → ℕ → Read
-read_sized line n = cond (sums_agree line n) (Block (header_of (part 1 (n + 1) line)) n) (Refused ChecksumDiffers)
+unfoldable pub read_sized : List ℕ → ℕ → Result Block Refusal
+read_sized line n = cond (sums_agree line n) (was_read (header_of (part 1 (n + 1) line)) n) (Err ChecksumDiffers)
 
 -- Reading a block alone, its length byte first: "12, 13 (reading only)". All that is given but the length byte and the sum
 -- is header and data.
-unfoldable pub read_of : List ℕ → Read
+unfoldable pub read_of : List ℕ → Result Block Refusal
 read_of line =
-    cond (length_good (get_or line 0 0) (length line - 3)) (read_sized line (get_or line 0 0)) (Refused BlockLength)
+    cond (length_good (get_or line 0 0) (length line - 3)) (read_sized line (get_or line 0 0)) (Err BlockLength)
 
 -- the data of what was read: the bytes behind the header; none of a refused block
-abbrev pub data_in : Read → List ℕ → List ℕ
-data_in (Block h n) line = part 11 (n + 1) line
-data_in (Refused r) line = []
+abbrev pub data_in : Result Block Refusal → List ℕ → List ℕ
+data_in (Ok b) line = part 11 (b.length + 1) line
+data_in (Err r) line = []

@@ -6,18 +6,11 @@
 
 use header::Header;
 
-// What a write answers: how many bytes went out, length byte and sum included.
+// What is read: the header, and the block length N, header and data.
 #[derive(Clone, Copy)]
-pub enum Written {
-    Bytes(usize),
-    Refused(Refusal),
-}
-
-// What a read answers: the header, and the block length N, header and data.
-#[derive(Clone, Copy)]
-pub enum Read {
-    Block { header: Header, length: usize },
-    Refused(Refusal),
+pub struct Block {
+    pub header: Header,
+    pub length: usize,
 }
 
 // What a block alone is refused by (01, "Refusal numbers and notes").

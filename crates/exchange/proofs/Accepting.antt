@@ -1,4 +1,5 @@
 -- What a request leaves, refused or accepted (`specs/Refusals.antt`). Assumes nothing.
+use Rattle.std.specs.Prelude.{Some, Ok, Err}
 use Prim.Native.Nat.{ℕ}
 use mathlib.Core.Path.{◌≡◌, refl, sym, ap, subst, ◌∙◌}
 use mathlib.Core.Bool.{Bool, true, false, not, ◌&&◌, false≢true, true≢false}
@@ -24,7 +25,6 @@ use Rattle.place.specs.declared.Own.{Own}
 use Rattle.place.specs.declared.IncomingStage.{IncomingStage}
 use Rattle.place.specs.declared.IncomingStage.TheVariants as incoming
 use Rattle.place.specs.declared.Incoming.{Incoming}
-use Rattle.table.specs.declared.Found.TheVariants.{At}
 use Rattle.exchange.specs.Exchange.{own_place, incoming_place, got_verdict, latest_after, put_own, put_incoming, with_sending}
 use Rattle.exchange.specs.Send.{reply_to}
 use Rattle.exchange.specs.Request.{refusal_number, asked_number, refused_by, refused, primary_header, not_ready, claimed_at, open_by, reply_accepted}
@@ -33,26 +33,25 @@ use Rattle.exchange.specs.Refusals.{OwnFree, numbered, RefusedChangesNothing, Fi
 use Rattle.exchange.specs.declared.Exchange.{Exchange}
 use Rattle.exchange.specs.declared.Refusal.{Refusal}
 use Rattle.exchange.specs.declared.Refusal.TheVariants as refusal
-use Rattle.exchange.specs.declared.Asked.{Asked}
-use Rattle.exchange.specs.declared.Asked.TheVariants.{Taken, Refused}
 use Rattle.exchange.specs.declared.Primary.{Primary}
 use Rattle.exchange.specs.declared.Outgoing.TheVariants as outgoing
 use Rattle.exchange.proofs.Cases.{by_open, by_reply, by_free_own, by_free_incoming, by_request}
 use Rattle.exchange.proofs.Refusing.{lowest_free}
+use Rattle.exchange.specs.Asked.{Asked}
 
 -- ---- what a request can come to
 
 abbrev is_taken : Asked → Bool
-is_taken (Taken p) = true
-is_taken (Refused r) = false
+is_taken (Ok p) = true
+is_taken (Err r) = false
 
-pub not_taken : {n : Refusal} {p : ℕ} → Refused n ≡ Taken p → ⊥
+pub not_taken : {n : Refusal} {p : ℕ} → Err n ≡ Ok p → ⊥
 not_taken e = false≢true (ap is_taken e)
 
 -- the place that is taken; a refused request takes none
 abbrev taken_at : Asked → ℕ
-taken_at (Taken p) = p
-taken_at (Refused r) = 0
+taken_at (Ok p) = p
+taken_at (Err r) = 0
 
 -- ---- refused
 
@@ -66,7 +65,7 @@ no_zero refusal.Place e = omega arith
 no_zero refusal.NotWanted e = omega arith
 no_zero refusal.Replied e = omega arith
 
-pub refused_number : (a : Asked) (r : Refusal) → a ≡ Refused r → asked_number a ≢ 0
+pub refused_number : (a : Asked) (r : Refusal) → a ≡ Err r → asked_number a ≢ 0
 refused_number a r e z = no_zero r (sym (ap asked_number e) ∙ z)
 
 pub refused_changes_nothing : RefusedChangesNothing
@@ -80,7 +79,7 @@ refused_changes_nothing c x r room =
 pub accepted_fills : AcceptedFills
 unfolding refused refused_by reply_accepted
 accepted_fills c x r room k =
-    by_request c x room (λ r a. a.answer.asked ≡ Taken k → FillsBy r room a.room) (λ r n e. absurd (not_taken e))
+    by_request c x room (λ r a. a.answer.asked ≡ Ok k → FillsBy r room a.room) (λ r n e. absurd (not_taken e))
     (λ q d p u e z. refl) (λ p f d u a b z. refl) (λ p e z. refl) (λ p e z. refl) r
 
 pub request_spares : RequestSpares
@@ -101,7 +100,7 @@ claimed o h e = rw e
 
 pub opened :
     (c : Terms) (x : Exchange) (q : Primary) (d room : List ℕ) → Fours x → (p : ℕ) → LowestAt (OwnFree x) p
-    → Opened c x q d room p (open_by (At p) c x q d room).answer.exchange (open_by (At p) c x q d room).room
+    → Opened c x q d room p (open_by (Some p) c x q d room).answer.exchange (open_by (Some p) c x q d room).room
 unfolding claimed_at
 opened c x q d room four p w = record {
   lowest = w;
@@ -122,16 +121,16 @@ opened c x q d room four p w = record {
     bytes : List ℕ
     bytes = header_bytes (primary_header c q (length d) (number_given x))
 
-    place : own_place (open_by (At p) c x q d room).answer.exchange p ≡ record { header = header_bytes (primary_header c q (length d) (number_given x)); stage = own.Sending }
+    place : own_place (open_by (Some p) c x q d room).answer.exchange p ≡ record { header = header_bytes (primary_header c q (length d) (number_given x)); stage = own.Sending }
     place = get_or-set_same x.own p (own_claimed (own_place x p) bytes) fresh_own (omega (arith, w.within, four.own)) ∙ claimed (own_place x p) bytes w.so
 
 pub accepted_opens : AcceptedOpens
 unfolding refused refused_by
 accepted_opens c x q d room four p =
-    by_open x room (λ a. a.answer.asked ≡ Taken p → Opened c x q d room p a.answer.exchange a.room)
+    by_open x room (λ a. a.answer.asked ≡ Ok p → Opened c x q d room p a.answer.exchange a.room)
     (λ r e. absurd (not_taken e)) c q d
     (λ k u s e.
-    subst (λ (j : ℕ). Opened c x q d room j (open_by (At k) c x q d room).answer.exchange (open_by (At k) c x q d room).room) (ap taken_at e)
+    subst (λ (j : ℕ). Opened c x q d room j (open_by (Some k) c x q d room).answer.exchange (open_by (Some k) c x q d room).room) (ap taken_at e)
     (opened c x q d room four k ((lowest_free x four k).0 s)))
 
 -- ---- a reply that is accepted
@@ -187,7 +186,7 @@ reply_there x p f d room k = record {
 pub accepted_replies : AcceptedReplies
 unfolding refused refused_by reply_accepted not_ready
 accepted_replies c x p f d room k =
-    by_reply x room (λ a. a.answer.asked ≡ Taken k → Replied x p f d room k a.answer.exchange a.room)
+    by_reply x room (λ a. a.answer.asked ≡ Ok k → Replied x p f d room k a.answer.exchange a.room)
     (λ r e. absurd (not_taken e)) p f d
     (λ u ready new e.
     subst (λ (j : ℕ). Replied x p f d room j (reply_accepted x p f d room).answer.exchange (reply_accepted x p f d room).room) (ap taken_at e)
@@ -245,10 +244,10 @@ pub accepted_releases : AcceptedReleases
 unfolding refused refused_by
 accepted_releases = record {
   own = λ c x p room k.
-      by_free_own x room (λ a. a.answer.asked ≡ Taken k → OwnReleased x p k a.answer.exchange) (λ r e. absurd (not_taken e)) p
+      by_free_own x room (λ a. a.answer.asked ≡ Ok k → OwnReleased x p k a.answer.exchange) (λ r e. absurd (not_taken e)) p
       (λ t e. subst (λ (j : ℕ). OwnReleased x p j (put_own x p (own_released (own_place x p)))) (ap taken_at e) (own_released_lem x p t));
   incoming = λ c x p room k.
-      by_free_incoming x room (λ a. a.answer.asked ≡ Taken k → IncomingReleased x p k a.answer.exchange) (λ r e. absurd (not_taken e)) p
+      by_free_incoming x room (λ a. a.answer.asked ≡ Ok k → IncomingReleased x p k a.answer.exchange) (λ r e. absurd (not_taken e)) p
       (λ t e. subst (λ (j : ℕ). IncomingReleased x p j (put_incoming x p (incoming_released (incoming_place x p)))) (ap taken_at e) (incoming_released_lem x p t));
 }
 

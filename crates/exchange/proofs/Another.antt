@@ -1,6 +1,7 @@
 -- One message that follows another in a call is another one. A report on its way has the last number given, "a new transaction number, taken
 -- when the report starts" (02, request 2): so the report that starts as it ends has another one, whatever number the start was told of.
 -- Assumes nothing.
+use Rattle.std.specs.Prelude.{Ok, Err}
 use Prim.Native.Nat.{ℕ}
 use mathlib.Core.Path.{◌≡◌, refl, sym, ap, subst, ◌∙◌}
 use mathlib.Core.Bool.{true, false≢true, true≢false}
@@ -26,12 +27,11 @@ use Rattle.exchange.specs.declared.Sending.TheVariants as sending
 use Rattle.exchange.specs.declared.Outbox.{Outbox}
 use Rattle.exchange.specs.declared.Exchange.{Exchange}
 use Rattle.exchange.specs.declared.Changed.{Changed}
-use Rattle.exchange.specs.declared.Asked.{Asked}
-use Rattle.exchange.specs.declared.Asked.TheVariants.{Taken, Refused}
 use Rattle.exchange.proofs.Starting.{still, over, begins}
 use Rattle.exchange.proofs.BeingSent.{sent_none, failed_none, request_sends, sending_ends}
 use Rattle.exchange.proofs.Numbering.{Moves, last_answered, call_moves, begun_new}
 use Rattle.exchange.proofs.Runs.{Sound, four_places, sound_on, run_reached}
+use Rattle.exchange.specs.Asked.{Asked}
 
 -- ---- a report on its way has the last number given
 
@@ -50,11 +50,11 @@ moved_numbered x y w (begins r l e h) = record { last = λ f n q. let same : sen
 -- a request sends what was asked for, or leaves what is being sent and the last number given: no report
 pub asked_numbered : (x : Exchange) (r : Request) (a : Asked) (z : Sending) (f n : ℕ) → sending_after r a z ≡ sending.Report f n
     → (z ≡ sending.Report f n) × (last_answered x r a ≡ x.numbers.last)
-asked_numbered x (primary q d) (Taken p) z f n e = absurd (true≢false (ap from_caller e))
-asked_numbered x (reply k g d) (Taken p) z f n e = absurd (true≢false (ap from_caller e))
-asked_numbered x (freeing_own k) (Taken p) z f n e = (e, refl)
-asked_numbered x (freeing_incoming k) (Taken p) z f n e = (e, refl)
-asked_numbered x r (Refused m) z f n e = (e, refl)
+asked_numbered x (primary q d) (Ok p) z f n e = absurd (true≢false (ap from_caller e))
+asked_numbered x (reply k g d) (Ok p) z f n e = absurd (true≢false (ap from_caller e))
+asked_numbered x (freeing_own k) (Ok p) z f n e = (e, refl)
+asked_numbered x (freeing_incoming k) (Ok p) z f n e = (e, refl)
+asked_numbered x r (Err m) z f n e = (e, refl)
 
 module _ (c : Terms) (x : Exchange) (room : List ℕ) (four : Fours x) (w : Numbered x) where
   pub call_numbered : (k : Call) → Numbered (called c x room k).exchange

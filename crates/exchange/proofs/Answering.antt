@@ -1,4 +1,5 @@
 -- Assembly of a cut reply is the reply (`specs/Assembly.antt`). Assumes nothing.
+use Rattle.std.specs.Prelude.{Some}
 use Prim.Native.Nat.{ℕ, zero, suc, ◌+◌, ◌-◌, ◌%◌, ◌≤◌, ◌<◌}
 use mathlib.Core.Path.{◌≡◌, refl, sym, ap, subst, ◌∙◌}
 use mathlib.Core.Bool.{Bool, true, false, cond, false≢true}
@@ -28,7 +29,6 @@ use Rattle.place.specs.declared.Verdict.{Verdict}
 use Rattle.place.specs.declared.Verdict.TheVariants.{Sent, Answered, Declined, Other, Broken, NoReply, SendFailed}
 use Rattle.table.specs.Number.{number_of}
 use Rattle.table.specs.Own.{own_put}
-use Rattle.table.specs.declared.Found.TheVariants.{At}
 use Rattle.exchange.specs.Exchange.{own_place, sent_from, sent_behind}
 use Rattle.exchange.specs.Reports.{outbox_of}
 use Rattle.exchange.specs.Judge.{judge_of}
@@ -126,7 +126,7 @@ box_behind c y b src room p fours new this note none =
 
     -- the lowest is one
     one : (q : ℕ) → LowestAt (λ j. OfReply (own_place y j) (header_of b)) q → q ≡ p
-    one q w = let e : At q ≡ At p = sym ((lowest_reply y fours (header_of b) q).1 w) ∙ (lowest_reply y fours (header_of b) p).1 this in cc
+    one q w = let e : Some q ≡ Some p = sym ((lowest_reply y fours (header_of b) q).1 w) ∙ (lowest_reply y fours (header_of b) p).1 this in cc
 
     silent : CausesNone c b (noted (judge_of c y b src room))
     silent = kept_causes_none c b _ note

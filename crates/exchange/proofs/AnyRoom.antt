@@ -1,5 +1,6 @@
 -- The transactions go by no byte of the room: what they are after calls on one room, and what is joined of them, is the same on another.
 -- Assumes nothing.
+use Rattle.std.specs.Prelude.{Option, Some, None}
 use Prim.Native.Nat.{ℕ}
 use mathlib.Core.Path.{◌≡◌, refl, ap, ◌∙◌}
 use mathlib.Core.Bool.{Bool, true, false, cond, not}
@@ -14,8 +15,6 @@ use Rattle.place.specs.declared.Fate.{Fate}
 use Rattle.place.specs.declared.Fate.TheVariants as fate
 use Rattle.table.specs.Own.{free_own, reply_for}
 use Rattle.table.specs.Incoming.{message_for, open_alike, free_incoming}
-use Rattle.table.specs.declared.Found.{Found}
-use Rattle.table.specs.declared.Found.TheVariants.{At, Nowhere}
 use Rattle.exchange.specs.Exchange.{incoming_place, saved_now}
 use Rattle.exchange.specs.Judge.{Judging, thrown, is_misrouted, is_duplicate, reply_block, message_block, begins_at, in_free, in_place, takes_place, primary_by, primary_block, or_primary, of_message, no_reply_block, of_reply, new_block, reporting, rules_of, judge_of}
 use Rattle.exchange.specs.Request.{Requesting, refused, bad_primary, bad_function, data_long, is_sending, not_ready, open_by, open_free, open_of, reply_accepted, reply_ready, reply_of, Request, answer_of}
@@ -38,15 +37,15 @@ abbrev judged_in : Judging → Judged
 judged_in j = j.answer
 
 module _ (h : Header) (d room other : List ℕ) where
-  free_alike : (f : Found) (x : Exchange) (last : Bool) → judged_in (in_free f x h last d room) ≡ judged_in (in_free f x h last d other)
+  free_alike : (f : Option ℕ) (x : Exchange) (last : Bool) → judged_in (in_free f x h last d room) ≡ judged_in (in_free f x h last d other)
   unfolding begins_at thrown
-  free_alike (At p) x last = refl
-  free_alike Nowhere x last = refl
+  free_alike (Some p) x last = refl
+  free_alike None x last = refl
 
-  place_alike : (f : Found) (x : Exchange) (last : Bool) → judged_in (in_place f x h last d room) ≡ judged_in (in_place f x h last d other)
+  place_alike : (f : Option ℕ) (x : Exchange) (last : Bool) → judged_in (in_place f x h last d room) ≡ judged_in (in_place f x h last d other)
   unfolding begins_at
-  place_alike (At p) x last = refl
-  place_alike Nowhere x last = free_alike (free_incoming x.incoming) x last
+  place_alike (Some p) x last = refl
+  place_alike None x last = free_alike (free_incoming x.incoming) x last
 
   primary_alike : (f : Fate) (x : Exchange) → judged_in (primary_by f x h d room) ≡ judged_in (primary_by f x h d other)
   unfolding thrown takes_place
@@ -55,16 +54,16 @@ module _ (h : Header) (d room other : List ℕ) where
   primary_alike (fate.Last n) x = place_alike (open_alike x.incoming h) x true
   primary_alike (fate.More n) x = place_alike (open_alike x.incoming h) x false
 
-  message_alike : (f : Found) (x : Exchange) → judged_in (of_message f x h d room) ≡ judged_in (of_message f x h d other)
+  message_alike : (f : Option ℕ) (x : Exchange) → judged_in (of_message f x h d room) ≡ judged_in (of_message f x h d other)
   unfolding message_block or_primary primary_block thrown
-  message_alike (At p) x = refl
-  message_alike Nowhere x =
+  message_alike (Some p) x = refl
+  message_alike None x =
       alike_if judged_in (begins_primary h) _ _ _ _ (primary_alike (fate_of h 0 (length d)) x) refl
 
-  reply_alike : (f : Found) (x : Exchange) → judged_in (of_reply f x h d room) ≡ judged_in (of_reply f x h d other)
+  reply_alike : (f : Option ℕ) (x : Exchange) → judged_in (of_reply f x h d room) ≡ judged_in (of_reply f x h d other)
   unfolding reply_block no_reply_block
-  reply_alike (At p) x = refl
-  reply_alike Nowhere x = message_alike (message_for x.incoming h) x
+  reply_alike (Some p) x = refl
+  reply_alike None x = message_alike (message_for x.incoming h) x
 
 rules_alike : (h d room other : List ℕ) (c : Terms) (x : Exchange) → judged_in (rules_of c x h d room) ≡ judged_in (rules_of c x h d other)
 unfolding rules_of new_block thrown
@@ -83,10 +82,10 @@ abbrev asked_in : Requesting → Requested
 asked_in a = a.answer
 
 module _ (x : Exchange) (d room other : List ℕ) where
-  found_alike : (f : Found) (c : Terms) (q : Primary) → asked_in (open_by f c x q d room) ≡ asked_in (open_by f c x q d other)
+  found_alike : (f : Option ℕ) (c : Terms) (q : Primary) → asked_in (open_by f c x q d room) ≡ asked_in (open_by f c x q d other)
   unfolding refused
-  found_alike (At p) c q = refl
-  found_alike Nowhere c q = refl
+  found_alike (Some p) c q = refl
+  found_alike None c q = refl
 
   open_alike_lem : (c : Terms) (q : Primary) → asked_in (open_of c x q d room) ≡ asked_in (open_of c x q d other)
   unfolding open_of open_free refused

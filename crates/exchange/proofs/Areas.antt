@@ -1,4 +1,5 @@
 -- After any calls each area begins with the data of the kept blocks joined. Assumes nothing.
+use Rattle.std.specs.Prelude.{Some}
 use Prim.Native.Nat.{ℕ, ◌+◌, ◌≤◌, ◌<◌}
 use mathlib.Core.Path.{◌≡◌, refl, sym, ap, ◌∙◌, subst}
 use mathlib.Core.Bool.{Bool, true, false, false≢true}
@@ -27,7 +28,6 @@ use Rattle.table.specs.Own.{free_own}
 use Rattle.table.specs.Incoming.{open_alike, free_incoming}
 use Rattle.table.specs.Number.{next_number}
 use Rattle.table.proofs.Finding.{reply_lowest, message_lowest, open_alike_lowest, free_incoming_lowest, free_own_lowest}
-use Rattle.table.specs.declared.Found.TheVariants.{At}
 use Rattle.exchange.specs.Exchange.{own_place, incoming_place, put_own, put_incoming, with_sending, saved_now}
 use Rattle.exchange.specs.Tick.{passed_of, tick_of}
 use Rattle.exchange.specs.Send.{put_out_by, ended_own, ended_reply, ended_report, sent_by, freeing, failed_by}
@@ -185,7 +185,7 @@ module _ (x : Exchange) (room : List ℕ) (s : Joined) (g : Good x room s) where
         (here (kept_in room message.Send 0 d) (fills_first room message.Send d g.whole (omega arith) fits))
 
     -- a primary takes a free place
-    claimed : (c : Terms) (q : Primary) (p : ℕ) → free_own x.own ≡ At p
+    claimed : (c : Terms) (q : Primary) (p : ℕ) → free_own x.own ≡ Some p
         → Good (claimed_at c x p q (length d)) (kept_in room message.Send 0 d) (record { replies = anew s.replies p []; messages = s.messages; outgoing = d })
     unfolding claimed_at put_own with_sending
     claimed c q p e =

@@ -1,4 +1,5 @@
 -- Which calls start the message being sent, and which end it (`specs/BeingSent.antt`). Assumes nothing.
+use Rattle.std.specs.Prelude.{Ok}
 use Prim.Native.Nat.{ℕ}
 use mathlib.Core.Path.{◌≡◌, refl, sym, ap, subst, ◌∙◌}
 use mathlib.Core.Bool.{true, false, false≢true, true≢false}
@@ -17,7 +18,6 @@ use Rattle.exchange.specs.declared.Sending.TheVariants as sending
 use Rattle.exchange.specs.declared.Outbox.{Outbox}
 use Rattle.exchange.specs.declared.Exchange.{Exchange}
 use Rattle.exchange.specs.declared.Changed.{Changed}
-use Rattle.exchange.specs.declared.Asked.TheVariants.{Taken}
 use Rattle.exchange.proofs.Unreported.{none_freed, idle, freeing_sends, judged_sends, ticked_sends}
 use Rattle.exchange.proofs.Cases.{by_behind, by_judge, by_request}
 use Rattle.exchange.proofs.Leaving.{whole}
@@ -33,10 +33,10 @@ module _ (c : Terms) (x : Exchange) (room : List ℕ) where
       by_request c x room (λ r a. a.answer.exchange.sending ≡ sending_after r a.answer.asked x.sending) (λ r n. refl)
       (λ q d p u e. refl) (λ p f d u a b. refl) (λ p e. refl) (λ p e. refl)
 
-  starts : (r : Request) (k : ℕ) → (answer_of c x r room).answer.asked ≡ Taken k → lends r ≡ true → Starts x (answer_of c x r room).answer.exchange
+  starts : (r : Request) (k : ℕ) → (answer_of c x r room).answer.asked ≡ Ok k → lends r ≡ true → Starts x (answer_of c x r room).answer.exchange
   unfolding refused refused_by claimed_at reply_accepted with_sending
   starts r k =
-      by_request c x room (λ r a. a.answer.asked ≡ Taken k → lends r ≡ true → Starts x a.answer.exchange) (λ r n e l. absurd (not_taken e))
+      by_request c x room (λ r a. a.answer.asked ≡ Ok k → lends r ≡ true → Starts x a.answer.exchange) (λ r n e l. absurd (not_taken e))
       (λ q d p u e z l. record { before = u.idle; after = refl }) (λ p f d u a b z l. record { before = u.idle; after = refl })
       (λ p e z l. absurd (false≢true l)) (λ p e z l. absurd (false≢true l)) r
 

@@ -1,4 +1,5 @@
 -- What holds in each case of judging holds of judging, and in each case of a request, of the request. Assumes nothing.
+use Rattle.std.specs.Prelude.{Option, Some, None, Ok}
 use Prim.Native.Nat.{ℕ}
 use mathlib.Core.Path.{◌≡◌, refl}
 use mathlib.Core.Bool.{Bool, true, false, not}
@@ -15,8 +16,6 @@ use Rattle.place.specs.declared.Fate.{Fate}
 use Rattle.place.specs.declared.Fate.TheVariants as fate
 use Rattle.table.specs.Own.{free_own, reply_for}
 use Rattle.table.specs.Incoming.{free_incoming, message_for, open_alike}
-use Rattle.table.specs.declared.Found.{Found}
-use Rattle.table.specs.declared.Found.TheVariants.{At, Nowhere}
 use Rattle.exchange.specs.Exchange.{own_place, incoming_place, put_own, put_incoming, sent_from, sent_behind, saved_now}
 use Rattle.exchange.specs.Judge.{Judging, thrown, is_misrouted, is_duplicate, last_by, spoilt_by, reply_block, message_block, begins_at, in_free, in_place, takes_place, primary_by, primary_block, or_primary, of_message, no_reply_block, of_reply, new_block, rules_of}
 use Rattle.exchange.specs.Request.{Requesting, requesting, bad_primary, bad_function, data_long, is_sending, not_ready, refused, open_by, open_free, open_of, reply_accepted, reply_ready, reply_of, release_own, release_incoming, Request, answer_of}
@@ -27,15 +26,14 @@ use Rattle.exchange.specs.declared.Sending.{Sending}
 use Rattle.exchange.specs.declared.Sending.TheVariants.{Nothing}
 use Rattle.exchange.specs.declared.Exchange.{Exchange}
 use Rattle.exchange.specs.declared.Refusal.{Refusal}
-use Rattle.exchange.specs.declared.Asked.TheVariants.{Taken}
 use Rattle.exchange.specs.declared.Primary.{Primary}
 use Rattle.exchange.specs.declared.Requested.{Requested}
 use Rattle.exchange.proofs.Judging.{Passed}
 
 -- what was found
-pub by_found : (f : Found) (P : Found → Type 0) → ((p : ℕ) → f ≡ At p → P (At p)) → (f ≡ Nowhere → P Nowhere) → P f
-by_found (At p) P here nowhere = here p refl
-by_found Nowhere P here nowhere = nowhere refl
+pub by_found : (f : Option ℕ) (P : Option ℕ → Type 0) → ((p : ℕ) → f ≡ Some p → P (Some p)) → (f ≡ None → P None) → P f
+by_found (Some p) P here nowhere = here p refl
+by_found None P here nowhere = nowhere refl
 
 -- the notes 24 to 27, by which a block is thrown out
 pub data Thrown : Note → Type 0 where
@@ -46,8 +44,8 @@ pub data Thrown : Note → Type 0 where
 
 -- place p is the one that a new primary takes: of an open message that is alike, or else the lowest free one
 abbrev pub Takes : Exchange → Header → ℕ → Bool → Type 0
-Takes x b p true = open_alike x.incoming b ≡ At p
-Takes x b p false = (open_alike x.incoming b ≡ Nowhere) × (free_incoming x.incoming ≡ At p)
+Takes x b p true = open_alike x.incoming b ≡ Some p
+Takes x b p false = (open_alike x.incoming b ≡ None) × (free_incoming x.incoming ≡ Some p)
 
 -- what is being sent once a block of the reply in own place p has come
 pub by_behind : (P : Sending → Type 0) (z : Sending) (p : ℕ) → (sent_from z p ≡ true → P Nothing) → (sent_from z p ≡ false → P z) → P (sent_behind z p)
@@ -58,21 +56,21 @@ by_behind P z p gone still = chosen P (sent_from z p) Nothing z gone still
 
 module _ (x : Exchange) (b : Header) (d room : List ℕ) (J : Judging → Type 0) where
   abbrev pub AsReply : Type 0
-  AsReply = (p : ℕ) → reply_for x.own b ≡ At p → J (reply_block x p b d room)
+  AsReply = (p : ℕ) → reply_for x.own b ≡ Some p → J (reply_block x p b d room)
 
   abbrev pub AsMessage : Type 0
-  AsMessage = (p : ℕ) → reply_for x.own b ≡ Nowhere → message_for x.incoming b ≡ At p → J (message_block x p b d room)
+  AsMessage = (p : ℕ) → reply_for x.own b ≡ None → message_for x.incoming b ≡ Some p → J (message_block x p b d room)
 
   -- the fate is that of a block that is kept
   abbrev pub AsPrimary : Type 0
   AsPrimary =
-      (p : ℕ) (gone : Bool) (f : Fate) → reply_for x.own b ≡ Nowhere → message_for x.incoming b ≡ Nowhere → begins_primary b ≡ true
+      (p : ℕ) (gone : Bool) (f : Fate) → reply_for x.own b ≡ None → message_for x.incoming b ≡ None → begins_primary b ≡ true
       → fate_of b 0 (length d) ≡ f → spoilt_by f ≡ false → Takes x b p gone → J (begins_at x p b gone (last_by f) d room)
 
   abbrev pub AsOutcast : Type 0
-  AsOutcast = (n : Note) → Thrown n → reply_for x.own b ≡ Nowhere → message_for x.incoming b ≡ Nowhere → J (thrown x n room)
+  AsOutcast = (n : Note) → Thrown n → reply_for x.own b ≡ None → message_for x.incoming b ≡ None → J (thrown x n room)
 
-  module _ (primary : AsPrimary) (outcast : AsOutcast) (r : reply_for x.own b ≡ Nowhere) (m : message_for x.incoming b ≡ Nowhere) (o : begins_primary b ≡ true) where
+  module _ (primary : AsPrimary) (outcast : AsOutcast) (r : reply_for x.own b ≡ None) (m : message_for x.incoming b ≡ None) (o : begins_primary b ≡ true) where
     placed : (f : Fate) → fate_of b 0 (length d) ≡ f → spoilt_by f ≡ false → J (takes_place x b (last_by f) d room)
     unfolding takes_place
     placed f e s =
@@ -93,7 +91,7 @@ module _ (x : Exchange) (b : Header) (d room : List ℕ) (J : Judging → Type 0
     begun = by_fate (fate_of b 0 (length d)) refl
 
   module _ (reply : AsReply) (message : AsMessage) (primary : AsPrimary) (outcast : AsOutcast) where
-    no_reply : reply_for x.own b ≡ Nowhere → J (no_reply_block x b d room)
+    no_reply : reply_for x.own b ≡ None → J (no_reply_block x b d room)
     unfolding no_reply_block or_primary
     no_reply r =
         by_found (message_for x.incoming b) (λ f. J (of_message f x b d room))
@@ -110,23 +108,23 @@ module _ (x : Exchange) (b : Header) (d room : List ℕ) (J : Judging → Type 0
 
 module _ (c : Terms) (x : Exchange) (h d room : List ℕ) (J : Judging → Type 0) where
   abbrev pub OfReply : Type 0
-  OfReply = (p : ℕ) → Passed c x h → reply_for x.own (header_of h) ≡ At p → J (reply_block (saved_now x h) p (header_of h) d room)
+  OfReply = (p : ℕ) → Passed c x h → reply_for x.own (header_of h) ≡ Some p → J (reply_block (saved_now x h) p (header_of h) d room)
 
   abbrev pub OfMessage : Type 0
   OfMessage =
-      (p : ℕ) → Passed c x h → reply_for x.own (header_of h) ≡ Nowhere → message_for x.incoming (header_of h) ≡ At p
+      (p : ℕ) → Passed c x h → reply_for x.own (header_of h) ≡ None → message_for x.incoming (header_of h) ≡ Some p
       → J (message_block (saved_now x h) p (header_of h) d room)
 
   -- the fate is that of a block that is kept
   abbrev pub OfPrimary : Type 0
   OfPrimary =
-      (p : ℕ) (gone : Bool) (f : Fate) → Passed c x h → reply_for x.own (header_of h) ≡ Nowhere
-      → message_for x.incoming (header_of h) ≡ Nowhere → begins_primary (header_of h) ≡ true → fate_of (header_of h) 0 (length d) ≡ f
+      (p : ℕ) (gone : Bool) (f : Fate) → Passed c x h → reply_for x.own (header_of h) ≡ None
+      → message_for x.incoming (header_of h) ≡ None → begins_primary (header_of h) ≡ true → fate_of (header_of h) 0 (length d) ≡ f
       → spoilt_by f ≡ false → Takes x (header_of h) p gone → J (begins_at (saved_now x h) p (header_of h) gone (last_by f) d room)
 
   abbrev pub Outcast : Type 0
   Outcast =
-      (n : Note) → Thrown n → reply_for x.own (header_of h) ≡ Nowhere → message_for x.incoming (header_of h) ≡ Nowhere
+      (n : Note) → Thrown n → reply_for x.own (header_of h) ≡ None → message_for x.incoming (header_of h) ≡ None
       → J (thrown (saved_now x h) n room)
 
   -- the saved header is no part of a place
@@ -159,14 +157,14 @@ pub record Sendable (x : Exchange) (d : List ℕ) : Type 0 where
 
 -- what an accepted release leaves
 abbrev pub own_freed : Exchange → ℕ → Requested
-own_freed x p = record { exchange = put_own x p (own_released (own_place x p)); asked = Taken p }
+own_freed x p = record { exchange = put_own x p (own_released (own_place x p)); asked = Ok p }
 
 abbrev pub incoming_freed : Exchange → ℕ → Requested
-incoming_freed x p = record { exchange = put_incoming x p (incoming_released (incoming_place x p)); asked = Taken p }
+incoming_freed x p = record { exchange = put_incoming x p (incoming_released (incoming_place x p)); asked = Ok p }
 
 module _ (x : Exchange) (room : List ℕ) (R : Requesting → Type 0) (refuse : (n : Refusal) → R (refused x n room)) where
   -- a primary takes the free place that is found
-  pub by_open : (c : Terms) (q : Primary) (d : List ℕ) → ((p : ℕ) → Sendable x d → free_own x.own ≡ At p → R (open_by (At p) c x q d room)) → R (open_of c x q d room)
+  pub by_open : (c : Terms) (q : Primary) (d : List ℕ) → ((p : ℕ) → Sendable x d → free_own x.own ≡ Some p → R (open_by (Some p) c x q d room)) → R (open_of c x q d room)
   unfolding open_of open_free
   by_open c q d take =
       chosen R (bad_primary q) _ _ (λ e. refuse _)
@@ -199,7 +197,7 @@ module _ (x : Exchange) (room : List ℕ) (R : Requesting → Type 0) (refuse : 
 -- any request: it is refused, or accepted as one of four kinds
 module _ (c : Terms) (x : Exchange) (room : List ℕ) (R : Request → Requesting → Type 0) where
   abbrev pub Opens : Type 0
-  Opens = (q : Primary) (d : List ℕ) (p : ℕ) → Sendable x d → free_own x.own ≡ At p → R (request.primary q d) (open_by (At p) c x q d room)
+  Opens = (q : Primary) (d : List ℕ) (p : ℕ) → Sendable x d → free_own x.own ≡ Some p → R (request.primary q d) (open_by (Some p) c x q d room)
 
   abbrev pub Replies : Type 0
   Replies =

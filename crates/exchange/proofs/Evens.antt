@@ -1,4 +1,5 @@
 -- A reply that is arriving has an even function, after any calls: so no block of a primary is taken for one of it. Assumes nothing.
+use Rattle.std.specs.Prelude.{Option, Some, None}
 use Prim.Native.Nat.{ℕ, ◌%◌, ◌<◌}
 use mathlib.Core.Path.{◌≡◌, ap, subst, ◌∙◌}
 use mathlib.Core.List.{List, [], ◌∷◌}
@@ -6,8 +7,6 @@ use Rattle.wire.proofs.Choice.{chosen}
 use Rattle.header.specs.declared.header.Header.{Header}
 use Rattle.settings.specs.Timer.{ticked}
 use Rattle.settings.specs.declared.terms.Terms.{Terms}
-use Rattle.settings.specs.declared.timer.Timer.{Timer}
-use Rattle.settings.specs.declared.timer.Timer.TheVariants.{RunsOut, Runs}
 use Rattle.place.specs.Arriving.{waited_by, arriving_tick}
 use Rattle.place.specs.Fate.{fate_of}
 use Rattle.place.specs.Own.{primary_of, ended, first_out, acknowledged, awaited_by, await_tick, replying_by, reply_tick, own_kept, own_takes, replied_by, replied, own_offered}
@@ -55,15 +54,15 @@ replies o b (Last n) e = tt
 replies o b (More n) e = e
 
 -- T3 or T4 runs on, or out
-awaits_on : (o : Own) (w : Timer) → Even (awaited_by o w)
+awaits_on : (o : Own) (w : Option ℕ) → Even (awaited_by o w)
 unfolding ended
-awaits_on o RunsOut = tt
-awaits_on o (Runs n) = tt
+awaits_on o None = tt
+awaits_on o (Some n) = tt
 
-replies_on : (o : Own) (a : Arriving) (w : Timer) → a.kind.function % 2 ≡ 0 → Even (replying_by o (waited_by a w))
+replies_on : (o : Own) (a : Arriving) (w : Option ℕ) → a.kind.function % 2 ≡ 0 → Even (replying_by o (waited_by a w))
 unfolding ended
-replies_on o a RunsOut e = tt
-replies_on o a (Runs n) e = e
+replies_on o a None e = tt
+replies_on o a (Some n) e = e
 
 -- its last block is out, or was acknowledged
 goes_out : (h : List ℕ) → Even (first_out (at h Sending))

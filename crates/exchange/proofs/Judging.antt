@@ -1,4 +1,5 @@
 -- Each test of judging is true exactly if 01's words hold (`specs/Rules.antt`). Assumes nothing.
+use Rattle.std.specs.Prelude.{Some, None}
 use Prim.Native.Nat.{ℕ, ◌+◌, ◌<◌}
 use mathlib.Core.Path.{◌≡◌, refl, sym, ap, ◌∙◌}
 use mathlib.Core.Bool.{Bool, true, false, not, ◌&&◌, ◌||◌, beq, false≢true}
@@ -26,7 +27,6 @@ use Rattle.place.specs.declared.Incoming.{Incoming}
 use Rattle.table.specs.Own.{reply_for}
 use Rattle.table.specs.Incoming.{free_incoming, message_for, open_alike}
 use Rattle.table.proofs.Finding.{reply_lowest, free_incoming_lowest, message_lowest, open_alike_lowest}
-use Rattle.table.specs.declared.Found.TheVariants.{At, Nowhere}
 use Rattle.exchange.specs.Exchange.{own_place, incoming_place}
 use Rattle.exchange.specs.Judge.{is_misrouted, is_saved, is_duplicate}
 use Rattle.exchange.specs.Rules.{Fours, Duplicate, New, IsAwaited, out, acked, OfReply, first, further, OfMessage, goes_on_lem, Begins, ReplyHere, MessageHere, Expected, AlikeHere, AlikeAt, FreeHere, FreeAt, HasPlace, LowestAt}
@@ -149,34 +149,34 @@ module _ (x : Exchange) (four : Fours x) (b : Header) where
   pub reply_here : found (reply_for x.own b) ≡ true ↔ ReplyHere x b
   reply_here = somewhere _ _ _ (reply_lowest x.own b four.own) (λ p. reply_says _ b)
 
-  pub lowest_reply : (p : ℕ) → (reply_for x.own b ≡ At p) ↔ LowestAt (λ q. OfReply (own_place x q) b) p
+  pub lowest_reply : (p : ℕ) → (reply_for x.own b ≡ Some p) ↔ LowestAt (λ q. OfReply (own_place x q) b) p
   lowest_reply p = lowest _ _ _ (reply_lowest x.own b four.own) (λ q. reply_says _ b) p
 
-  pub no_reply : (ReplyHere x b → ⊥) → reply_for x.own b ≡ Nowhere
+  pub no_reply : (ReplyHere x b → ⊥) → reply_for x.own b ≡ None
   no_reply = nowhere _ _ _ (reply_lowest x.own b four.own) (λ p. reply_says _ b)
 
   pub message_here : found (message_for x.incoming b) ≡ true ↔ MessageHere x b
   message_here = somewhere _ _ _ (message_lowest x.incoming b four.incoming) (λ p. message_says _ b)
 
-  pub lowest_message : (p : ℕ) → LowestAt (λ q. OfMessage (incoming_place x q) b) p → message_for x.incoming b ≡ At p
+  pub lowest_message : (p : ℕ) → LowestAt (λ q. OfMessage (incoming_place x q) b) p → message_for x.incoming b ≡ Some p
   lowest_message p = (lowest _ _ _ (message_lowest x.incoming b four.incoming) (λ q. message_says _ b) p).1
 
-  pub no_message : (MessageHere x b → ⊥) → message_for x.incoming b ≡ Nowhere
+  pub no_message : (MessageHere x b → ⊥) → message_for x.incoming b ≡ None
   no_message = nowhere _ _ _ (message_lowest x.incoming b four.incoming) (λ p. message_says _ b)
 
   pub alike_here : found (open_alike x.incoming b) ≡ true ↔ AlikeHere x b
   alike_here = somewhere _ _ _ (open_alike_lowest x.incoming b four.incoming) (λ p. Iff.rfl)
 
-  pub lowest_alike : (p : ℕ) → LowestAt (AlikeAt x b) p → open_alike x.incoming b ≡ At p
+  pub lowest_alike : (p : ℕ) → LowestAt (AlikeAt x b) p → open_alike x.incoming b ≡ Some p
   lowest_alike p = (lowest _ _ _ (open_alike_lowest x.incoming b four.incoming) (λ q. Iff.rfl) p).1
 
-  pub no_alike : (AlikeHere x b → ⊥) → open_alike x.incoming b ≡ Nowhere
+  pub no_alike : (AlikeHere x b → ⊥) → open_alike x.incoming b ≡ None
   no_alike = nowhere _ _ _ (open_alike_lowest x.incoming b four.incoming) (λ p. Iff.rfl)
 
   pub free_here : found (free_incoming x.incoming) ≡ true ↔ FreeHere x
   free_here = somewhere _ _ _ (free_incoming_lowest x.incoming four.incoming) (λ p. is_free _)
 
-  pub lowest_free : (p : ℕ) → LowestAt (FreeAt x) p → free_incoming x.incoming ≡ At p
+  pub lowest_free : (p : ℕ) → LowestAt (FreeAt x) p → free_incoming x.incoming ≡ Some p
   lowest_free p = (lowest _ _ _ (free_incoming_lowest x.incoming four.incoming) (λ q. is_free _) p).1
 
   pub expected : found (reply_for x.own b) || (found (message_for x.incoming b) || begins_primary b) ≡ true ↔ Expected x b

@@ -1,4 +1,5 @@
 -- What a block does to the place of its message, by rules 4, 5 and 7 (`specs/Rules.antt`). Assumes nothing.
+use Rattle.std.specs.Prelude.{Option, Some, None}
 use Prim.Native.Nat.{ℕ, zero, suc}
 use mathlib.Core.Path.{◌≡◌, refl, sym, ap, subst, ◌∙◌}
 use mathlib.Core.Bool.{Bool, true, false, cond}
@@ -21,8 +22,6 @@ use Rattle.place.specs.declared.Incoming.{Incoming}
 use Rattle.table.specs.Number.{number_of}
 use Rattle.table.specs.Own.{reply_for}
 use Rattle.table.specs.Incoming.{message_for}
-use Rattle.table.specs.declared.Found.{Found}
-use Rattle.table.specs.declared.Found.TheVariants.{At, Nowhere}
 use Rattle.exchange.specs.Flags.{no_marks, mark_at, no_flags, verdict_flag, incoming_flags}
 use Rattle.exchange.specs.Exchange.{own_place, incoming_place, got_verdict, latest_after, put_own, put_incoming, with_sending, sent_behind, put_replied, saved_now}
 use Rattle.exchange.specs.Judge.{Judging, judging, thrown, replied_as, reply_block, continued_as, message_block, primary_block, or_primary, of_message, no_reply_block, of_reply, new_block, rules_of}
@@ -40,13 +39,13 @@ use Rattle.exchange.proofs.Outcomes.{fate_kept}
 
 pub bytes_before_lem : BytesBefore
 bytes_before_lem x b four = record {
-  reply = λ p w. ap (λ (f : Found). reply_bytes f x.own x.incoming b) ((test.lowest_reply x four b p).1 w);
+  reply = λ p w. ap (λ (f : Option ℕ). reply_bytes f x.own x.incoming b) ((test.lowest_reply x four b p).1 w);
   message = λ none p w.
-      ap (λ (f : Found). reply_bytes f x.own x.incoming b) (test.no_reply x four b none)
-      ∙ ap (λ (f : Found). message_bytes f x.incoming) (test.lowest_message x four b p w);
+      ap (λ (f : Option ℕ). reply_bytes f x.own x.incoming b) (test.no_reply x four b none)
+      ∙ ap (λ (f : Option ℕ). message_bytes f x.incoming) (test.lowest_message x four b p w);
   none = λ none no_message.
-      ap (λ (f : Found). reply_bytes f x.own x.incoming b) (test.no_reply x four b none)
-      ∙ ap (λ (f : Found). message_bytes f x.incoming) (test.no_message x four b no_message);
+      ap (λ (f : Option ℕ). reply_bytes f x.own x.incoming b) (test.no_reply x four b none)
+      ∙ ap (λ (f : Option ℕ). message_bytes f x.incoming) (test.no_message x four b no_message);
 }
 
 -- ---- flags
@@ -207,10 +206,10 @@ message_block_lem c x h d room four new none p w =
     have : ℕ
     have = incoming_length i
 
-    no_reply : reply_for x.own b ≡ Nowhere
+    no_reply : reply_for x.own b ≡ None
     no_reply = test.no_reply x four b none
 
-    found : message_for x.incoming b ≡ At p
+    found : message_for x.incoming b ≡ Some p
     found = test.lowest_message x four b p w
 
     before : bytes_before x b ≡ have
@@ -219,8 +218,8 @@ message_block_lem c x h d room four new none p w =
     judges : rules_of c x h d room ≡ continued_as (saved_now x h) p i (kept_by i b (fate_of b have (length d))) (fate_of b have (length d)) d room
     judges =
         passes c x h d room new
-        ∙ ap (λ (f : Found). of_reply f (saved_now x h) (header_of h) d room) no_reply
-        ∙ ap (λ (f : Found). of_message f (saved_now x h) (header_of h) d room) found
+        ∙ ap (λ (f : Option ℕ). of_reply f (saved_now x h) (header_of h) d room) no_reply
+        ∙ ap (λ (f : Option ℕ). of_message f (saved_now x h) (header_of h) d room) found
         ∙ ap (λ (q : Incoming). continued_as (saved_now x h) p i q (fate_of b have (length d)) d room) (held (incoming_takes i b) _ i ((test.message_says i b).1 w.so))
 
 -- ---- a primary that is not open
@@ -238,5 +237,5 @@ no_place_taken c x h d room four new none no_message s =
     judges : rules_of c x h d room ≡ or_primary (saved_now x h) (header_of h) d room
     judges =
         passes c x h d room new
-        ∙ ap (λ (f : Found). of_reply f (saved_now x h) (header_of h) d room) (test.no_reply x four (header_of h) none)
-        ∙ ap (λ (f : Found). of_message f (saved_now x h) (header_of h) d room) (test.no_message x four (header_of h) no_message)
+        ∙ ap (λ (f : Option ℕ). of_reply f (saved_now x h) (header_of h) d room) (test.no_reply x four (header_of h) none)
+        ∙ ap (λ (f : Option ℕ). of_message f (saved_now x h) (header_of h) d room) (test.no_message x four (header_of h) no_message)

@@ -2,6 +2,7 @@
 -- transaction to get a verdict, and of the last number given, from before both is what is seen of one and then of the other; and a report that
 -- starts in either has the next number (02, request 2: "On a tick a failed message lets the oldest start, then places 0 to 3 add theirs").
 -- The tick gives verdict 6. Assumes nothing.
+use Rattle.std.specs.Prelude.{Option, Some, None}
 use Prim.Native.Nat.{ℕ, ◌<◌}
 use mathlib.Core.Path.{◌≡◌, refl, sym, ap, ◌∙◌, subst}
 use mathlib.Core.Bool.{Bool, true, false, cond, false≢true}
@@ -14,8 +15,6 @@ use Rattle.settings.specs.declared.terms.Terms.{Terms}
 use Rattle.settings.proofs.Timers.{by_timer}
 use Rattle.place.specs.Arriving.{arriving_tick}
 use Rattle.place.specs.declared.Arriving.{Arriving}
-use Rattle.place.specs.declared.Waited.{Waited}
-use Rattle.place.specs.declared.Waited.TheVariants as waited
 use Rattle.place.specs.Own.{fresh_own, primary_of, own_is_free, own_standing, own_kept, ended, own_failed, awaited_by, await_tick, replying_by, reply_tick, own_tick}
 use Rattle.place.specs.declared.Verdict.{Verdict}
 use Rattle.place.specs.declared.OwnStage.{OwnStage}
@@ -58,11 +57,11 @@ record Steps (c : Terms) (a b : Own) : Type 0 where
   pub number : number_shown (read (own_tick c b)) ≡ number_shown (read b)
 
 -- a tick leaves its number
-waited_number : (h : List ℕ) (a : Arriving) (w : Waited)
+waited_number : (h : List ℕ) (a : Arriving) (w : Option Arriving)
     → number_shown (read (replying_by (record { header = h; stage = stage.Replying a }) w)) ≡ number_shown (read (record { header = h; stage = stage.Replying a }))
 unfolding ended
-waited_number h a waited.Broken = refl
-waited_number h a (waited.Still b) = refl
+waited_number h a None = refl
+waited_number h a (Some b) = refl
 
 ticked_number : (c : Terms) (h : List ℕ) (z : OwnStage) → number_shown (read (own_tick c (record { header = h; stage = z }))) ≡ number_shown (read (record { header = h; stage = z }))
 unfolding await_tick reply_tick ended
@@ -76,10 +75,10 @@ ticked_number c h (stage.Replying a) = waited_number h a (arriving_tick c a)
 ticked_number c h (stage.Done v r) = refl
 
 -- and leaves it in use, or free
-waited_use : (h : List ℕ) (a : Arriving) (w : Waited) → in_use (read (replying_by (record { header = h; stage = stage.Replying a }) w)) ≡ true
+waited_use : (h : List ℕ) (a : Arriving) (w : Option Arriving) → in_use (read (replying_by (record { header = h; stage = stage.Replying a }) w)) ≡ true
 unfolding ended
-waited_use h a waited.Broken = refl
-waited_use h a (waited.Still b) = refl
+waited_use h a None = refl
+waited_use h a (Some b) = refl
 
 ticked_use : (c : Terms) (h : List ℕ) (z : OwnStage) → in_use (read (own_tick c (record { header = h; stage = z }))) ≡ in_use (read (record { header = h; stage = z }))
 unfolding await_tick reply_tick ended

@@ -1,4 +1,5 @@
 -- What judging leaves, and the place of a new primary (`specs/Rules.antt`). Assumes nothing.
+use Rattle.std.specs.Prelude.{Option}
 use Prim.Native.Nat.{ℕ, ◌≤◌}
 use mathlib.Core.Path.{◌≡◌, refl, sym, ap, ◌∙◌}
 use mathlib.Core.Bool.{Bool, true, false, cond, not, ◌||◌, false≢true}
@@ -25,7 +26,6 @@ use Rattle.place.specs.declared.IncomingStage.{IncomingStage}
 use Rattle.place.specs.declared.IncomingStage.TheVariants as incoming
 use Rattle.place.specs.declared.Incoming.{Incoming}
 use Rattle.table.specs.Incoming.{free_incoming, open_alike}
-use Rattle.table.specs.declared.Found.{Found}
 use Rattle.exchange.specs.Note.{note_by, note_number}
 use Rattle.exchange.specs.Flags.{incoming_flags}
 use Rattle.exchange.specs.Reports.{outbox_of, with_outbox, freed, freed_in, is_over}
@@ -64,7 +64,7 @@ pub replied_there : (c : Terms) (x : Exchange) (h d room : List ℕ) → Fours x
     → rules_of c x h d room ≡ reply_block (saved_now x h) p (header_of h) d room
 unfolding new_block saved_now
 replied_there c x h d room four new p w =
-    passes c x h d room new ∙ ap (λ (f : Found). of_reply f (saved_now x h) (header_of h) d room) ((test.lowest_reply x four (header_of h) p).1 w)
+    passes c x h d room new ∙ ap (λ (f : Option ℕ). of_reply f (saved_now x h) (header_of h) d room) ((test.lowest_reply x four (header_of h) p).1 w)
 
 -- ---- what is left
 
@@ -203,8 +203,8 @@ by_rule_6 : (c : Terms) (x : Exchange) (h d room : List ℕ) → Fours x → New
 unfolding new_block no_reply_block or_primary primary_block saved_now
 by_rule_6 c x h d room four new =
     passes c x h d room new.new
-    ∙ ap (λ (f : Found). of_reply f (saved_now x h) (header_of h) d room) (test.no_reply x four (header_of h) new.no_reply)
-    ∙ ap (λ (f : Found). of_message f (saved_now x h) (header_of h) d room) (test.no_message x four (header_of h) new.no_message)
+    ∙ ap (λ (f : Option ℕ). of_reply f (saved_now x h) (header_of h) d room) (test.no_reply x four (header_of h) new.no_reply)
+    ∙ ap (λ (f : Option ℕ). of_message f (saved_now x h) (header_of h) d room) (test.no_message x four (header_of h) new.no_message)
     ∙ ap (λ (t : Bool). cond t (primary_block (saved_now x h) (header_of h) d room) (thrown (saved_now x h) Stray room)) ((test.begins (header_of h)).1 new.begins)
     ∙ by_fate (header_of h) 0 (length d) (λ f. primary_by f (saved_now x h) (header_of h) d room ≡ takes_place (saved_now x h) (header_of h) (header_of h).e d room)
     (λ l. absurd (new.has_data l)) (λ a l. absurd (omega (arith, new.fits))) (λ a e l. rw e) (λ a e l s. rw e)
@@ -254,13 +254,13 @@ place_taken c x h d room four new = record {
   alike = λ p w.
       begun_whole c x h d room p true _
       (judges
-      ∙ ap (λ (f : Found). in_place f (saved_now x h) (header_of h) (header_of h).e d room) (test.lowest_alike x four (header_of h) p w)
+      ∙ ap (λ (f : Option ℕ). in_place f (saved_now x h) (header_of h) (header_of h).e d room) (test.lowest_alike x four (header_of h) p w)
       ∙ begins_there c x h d room p true new (rw w.so.0));
   free = λ none p w.
       begun_whole c x h d room p false _
       (judges
-      ∙ ap (λ (f : Found). in_place f (saved_now x h) (header_of h) (header_of h).e d room) (test.no_alike x four (header_of h) none)
-      ∙ ap (λ (f : Found). in_free f (saved_now x h) (header_of h) (header_of h).e d room) (test.lowest_free x four (header_of h) p w)
+      ∙ ap (λ (f : Option ℕ). in_place f (saved_now x h) (header_of h) (header_of h).e d room) (test.no_alike x four (header_of h) none)
+      ∙ ap (λ (f : Option ℕ). in_free f (saved_now x h) (header_of h) (header_of h).e d room) (test.lowest_free x four (header_of h) p w)
       ∙ begins_there c x h d room p false new (rw w.so));
   all_in_use = (λ e. in_use_lem.0 (sym note ∙ e), λ w. note ∙ in_use_lem.1 w);
 }

@@ -1,4 +1,5 @@
 -- Each note exactly when its rule says so (`specs/Rules.antt`): the note is one choice after the other on six tests. Assumes nothing.
+use Rattle.std.specs.Prelude.{Option, Some, None}
 use Prim.Native.Nat.{ℕ, ◌+◌, ◌<◌}
 use mathlib.Core.Path.{◌≡◌, refl, sym, ap, subst, ◌∙◌}
 use mathlib.Core.Bool.{Bool, true, false, cond, not, ◌||◌}
@@ -19,8 +20,6 @@ use Rattle.place.proofs.Messages.{lacks}
 use Rattle.place.specs.declared.Fate.TheVariants as fate
 use Rattle.table.specs.Own.{reply_for}
 use Rattle.table.specs.Incoming.{free_incoming, message_for, open_alike}
-use Rattle.table.specs.declared.Found.{Found}
-use Rattle.table.specs.declared.Found.TheVariants.{At, Nowhere}
 use Rattle.exchange.specs.Note.{note_by, note_number}
 use Rattle.exchange.specs.Exchange.{own_place, incoming_place, saved_now}
 use Rattle.exchange.specs.Judge.{thrown, is_misrouted, is_duplicate, reply_block, message_block, begins_at, in_free, in_place, takes_place, primary_by, primary_block, or_primary, of_message, no_reply_block, of_reply, new_block, rules_of}
@@ -64,15 +63,15 @@ fate_note b have size = fate_by (lacks_data b size) (too_long have size) b.e (ha
 
 -- of a primary that begins
 module _ (x : Exchange) (h : Header) (d room : List ℕ) where
-  in_free_lem : (f : Found) (last : Bool) → noted (in_free f x h last d room) ≡ place_note (found f)
+  in_free_lem : (f : Option ℕ) (last : Bool) → noted (in_free f x h last d room) ≡ place_note (found f)
   unfolding begins_at thrown
-  in_free_lem (At p) last = refl
-  in_free_lem Nowhere last = refl
+  in_free_lem (Some p) last = refl
+  in_free_lem None last = refl
 
-  in_place_lem : (f : Found) (last : Bool) → noted (in_place f x h last d room) ≡ place_note (found f || found (free_incoming x.incoming))
+  in_place_lem : (f : Option ℕ) (last : Bool) → noted (in_place f x h last d room) ≡ place_note (found f || found (free_incoming x.incoming))
   unfolding begins_at
-  in_place_lem (At p) last = refl
-  in_place_lem Nowhere last = in_free_lem (free_incoming x.incoming) last
+  in_place_lem (Some p) last = refl
+  in_place_lem None last = in_free_lem (free_incoming x.incoming) last
 
   pub takes_note : (last : Bool) → noted (takes_place x h last d room) ≡ place_note (found (open_alike x.incoming h) || found (free_incoming x.incoming))
   unfolding takes_place
@@ -101,21 +100,21 @@ module _ (x : Exchange) (h : Header) (d room : List ℕ) where
       ∙ ap (λ (n : ℕ). cond (begins_primary h) n 24) primary_note
 
   -- of a message, or a primary
-  of_message_lem : (m : Found)
+  of_message_lem : (m : Option ℕ)
       → noted (of_message m x h d room)
       ≡ new_note (found m || begins_primary h) (lacks_data h (length d)) (too_long (message_bytes m x.incoming) (length d)) (found m || room_for)
   unfolding message_block
-  of_message_lem (At p) = fate_note h (incoming_length (incoming_place x p)) (length d)
-  of_message_lem Nowhere = or_primary_lem
+  of_message_lem (Some p) = fate_note h (incoming_length (incoming_place x p)) (length d)
+  of_message_lem None = or_primary_lem
 
   -- of a reply, or one of these
-  of_reply_lem : (f : Found)
+  of_reply_lem : (f : Option ℕ)
       → noted (of_reply f x h d room)
       ≡ new_note (found f || (found (message_for x.incoming h) || begins_primary h)) (lacks_data h (length d))
       (too_long (reply_bytes f x.own x.incoming h) (length d)) (found f || (found (message_for x.incoming h) || room_for))
   unfolding reply_block no_reply_block
-  of_reply_lem (At p) = fate_note h (own_kept (own_place x p)).length (length d)
-  of_reply_lem Nowhere = of_message_lem (message_for x.incoming h)
+  of_reply_lem (Some p) = fate_note h (own_kept (own_place x p)).length (length d)
+  of_reply_lem None = of_message_lem (message_for x.incoming h)
 
 -- ---- the six tests of a block
 

@@ -1,5 +1,6 @@
 -- The numbers that the state keeps are those that an onlooker keeps; and what one call does to each of them (`specs/Numbers.antt`). Assumes
 -- nothing.
+use Rattle.std.specs.Prelude.{Ok, Err}
 use Prim.Native.Nat.{ℕ, zero, suc, ◌%◌, ◌≤◌, ◌<◌}
 use mathlib.Core.Path.{◌≡◌, refl, sym, ap, ◌∙◌, subst}
 use mathlib.Core.Bool.{Bool, true, false, cond, not, ◌&&◌, and-false, false≢true, true≢false}
@@ -50,8 +51,6 @@ use Rattle.exchange.specs.declared.Changed.{Changed}
 use Rattle.exchange.specs.declared.Exchange.{Exchange}
 use Rattle.exchange.specs.declared.OwnReading.{OwnReading}
 use Rattle.exchange.specs.declared.OwnReading.TheVariants.{NoPlace, Place}
-use Rattle.exchange.specs.declared.Asked.{Asked}
-use Rattle.exchange.specs.declared.Asked.TheVariants.{Taken, Refused}
 use Rattle.exchange.specs.declared.Primary.{Primary}
 use Rattle.exchange.proofs.Cases.{by_behind, by_judge, by_request}
 use Rattle.exchange.proofs.Refusing.{lowest_free}
@@ -60,6 +59,7 @@ use Rattle.exchange.proofs.Same.{message_same, message_other, other_message}
 use Rattle.exchange.proofs.Starting.{Box, still, over, begins, freed_on, judged_on, ticked_on}
 use Rattle.exchange.proofs.BeingSent.{request_sends, sending_ends}
 use Rattle.exchange.proofs.Runs.{four_places, sound_fresh, run_any}
+use Rattle.exchange.specs.Asked.{Asked}
 
 -- ---- one place
 
@@ -392,8 +392,8 @@ last_taken x (freeing_own p) = x.numbers.last
 last_taken x (freeing_incoming p) = x.numbers.last
 
 abbrev pub last_answered : Exchange → Request → Asked → ℕ
-last_answered x r (Taken p) = last_taken x r
-last_answered x r (Refused n) = x.numbers.last
+last_answered x r (Ok p) = last_taken x r
+last_answered x r (Err n) = x.numbers.last
 
 -- a primary gives its number; a reply, and a release, leave no verdict that was not there
 module _ (c : Terms) (x : Exchange) (room : List ℕ) (four : Fours x) where
@@ -418,11 +418,11 @@ module _ (c : Terms) (x : Exchange) (room : List ℕ) (four : Fours x) where
 -- it sends what was asked for, or leaves what is being sent: no report
 no_report : (r : Request) (a : Asked) (z : Sending) (f n : ℕ) → sending_after r a z ≡ sending.Report f n
     → (z ≡ sending.Report f n) × ((after : ℕ → OwnReading) (last : ℕ) → last_asked r a after last ≡ last)
-no_report (primary q d) (Taken p) z f n e = absurd (true≢false (ap from_caller e))
-no_report (reply k g d) (Taken p) z f n e = absurd (true≢false (ap from_caller e))
-no_report (freeing_own k) (Taken p) z f n e = (e, λ after last. refl)
-no_report (freeing_incoming k) (Taken p) z f n e = (e, λ after last. refl)
-no_report r (Refused m) z f n e = (e, λ after last. refl)
+no_report (primary q d) (Ok p) z f n e = absurd (true≢false (ap from_caller e))
+no_report (reply k g d) (Ok p) z f n e = absurd (true≢false (ap from_caller e))
+no_report (freeing_own k) (Ok p) z f n e = (e, λ after last. refl)
+no_report (freeing_incoming k) (Ok p) z f n e = (e, λ after last. refl)
+no_report r (Err m) z f n e = (e, λ after last. refl)
 
 -- ---- one call
 
@@ -560,11 +560,11 @@ module _ (x y : Exchange) (s : NumbersSeen) (w : NumbersAre x s) where
 module _ (c : Terms) (x : Exchange) (room : List ℕ) (four : Fours x) where
   -- a request that gives no number leaves the last one
   no_primary : (r : Request) (a : Asked) → (answer_of c x r room).answer.asked ≡ a → (GivesNumber c x room (request r) → ⊥) → last_answered x r a ≡ x.numbers.last
-  no_primary (primary q d) (Taken p) e none = absurd (none (record { header = q; rest = d; place = p; so = refl; taken = e }))
-  no_primary (reply p f d) (Taken k) e none = refl
-  no_primary (freeing_own p) (Taken k) e none = refl
-  no_primary (freeing_incoming p) (Taken k) e none = refl
-  no_primary r (Refused n) e none = refl
+  no_primary (primary q d) (Ok p) e none = absurd (none (record { header = q; rest = d; place = p; so = refl; taken = e }))
+  no_primary (reply p f d) (Ok k) e none = refl
+  no_primary (freeing_own p) (Ok k) e none = refl
+  no_primary (freeing_incoming p) (Ok k) e none = refl
+  no_primary r (Err n) e none = refl
 
   -- no other call is a primary
   abbrev asks : Call → Bool
@@ -686,18 +686,18 @@ module _ (c : Terms) (x : Exchange) (room : List ℕ) (four : Fours x) (s : Numb
   -- an accepted primary shows its number
   last_shown : (r : Request) (a : Asked) → (answer_of c x r room).answer.asked ≡ a
       → last_answered x r a ≡ last_asked r a (own_reading (answer_of c x r room).answer.exchange) s.last
-  last_shown (primary q d) (Taken p) e = sym (given_shown x four w.fits c q d room p _ _ (accepted_opens c x q d room four p e))
-  last_shown (reply p f d) (Taken k) e = w.last
-  last_shown (freeing_own p) (Taken k) e = w.last
-  last_shown (freeing_incoming p) (Taken k) e = w.last
-  last_shown r (Refused n) e = w.last
+  last_shown (primary q d) (Ok p) e = sym (given_shown x four w.fits c q d room p _ _ (accepted_opens c x q d room four p e))
+  last_shown (reply p f d) (Ok k) e = w.last
+  last_shown (freeing_own p) (Ok k) e = w.last
+  last_shown (freeing_incoming p) (Ok k) e = w.last
+  last_shown r (Err n) e = w.last
 
   answered_fits : (r : Request) (a : Asked) → last_answered x r a ≤ 65535
-  answered_fits (primary q d) (Taken p) = given_fits x four w.fits
-  answered_fits (reply p f d) (Taken k) = w.fits
-  answered_fits (freeing_own p) (Taken k) = w.fits
-  answered_fits (freeing_incoming p) (Taken k) = w.fits
-  answered_fits r (Refused n) = w.fits
+  answered_fits (primary q d) (Ok p) = given_fits x four w.fits
+  answered_fits (reply p f d) (Ok k) = w.fits
+  answered_fits (freeing_own p) (Ok k) = w.fits
+  answered_fits (freeing_incoming p) (Ok k) = w.fits
+  answered_fits r (Err n) = w.fits
 
   -- where no request is made
   moved_are : (y : Exchange) → length y.own ≡ 4 → Moves x y → Seen x y

@@ -1,13 +1,12 @@
 -- A message in an incoming place came to this end and is a primary, after any calls: so a reply of ours to it goes the other way, and has an
 -- even function. Assumes nothing.
+use Rattle.std.specs.Prelude.{Option, Some, None}
 use Prim.Native.Nat.{ℕ, ◌%◌, ◌<◌}
 use mathlib.Core.Path.{◌≡◌, ap, subst, ◌∙◌}
 use mathlib.Core.List.{List, [], ◌∷◌}
 use Rattle.header.specs.declared.header.Header.{Header}
 use Rattle.settings.specs.Timer.{ticked}
 use Rattle.settings.specs.declared.terms.Terms.{Terms}
-use Rattle.settings.specs.declared.timer.Timer.{Timer}
-use Rattle.settings.specs.declared.timer.Timer.TheVariants.{RunsOut, Runs}
 use Rattle.place.specs.Message.{Routed}
 use Rattle.place.specs.Fate.{fate_of}
 use Rattle.place.specs.Arriving.{waited_by, arriving_tick}
@@ -63,9 +62,9 @@ module _ (c : Terms) where
   goes h b s (More n) w = w
 
   -- T4 runs on, or out
-  waits : (h : Header) (a : Arriving) (t : Timer) → Came c h → CameHere c (open_by (at h (Open a)) (waited_by a t))
-  waits h a RunsOut w = tt
-  waits h a (Runs n) w = w
+  waits : (h : Header) (a : Arriving) (t : Option ℕ) → Came c h → CameHere c (open_by (at h (Open a)) (waited_by a t))
+  waits h a None w = tt
+  waits h a (Some n) w = w
 
   came_step : (h : Header) (s : IncomingStage) (e : Event c) → CameAt c s h → CameHere c (step (at h s) e)
   unfolding begins open_tick arriving_tick incoming_offered goes_on

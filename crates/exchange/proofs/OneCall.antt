@@ -1,4 +1,5 @@
 -- What one call does to a place: an event of the place, which its onlooker at the door sees so, or nothing. Assumes nothing.
+use Rattle.std.specs.Prelude.{Option, Some, None}
 use Prim.Native.Nat.{ℕ, ◌<◌}
 use mathlib.Core.Path.{◌≡◌, refl, sym, ap, ◌∙◌}
 use mathlib.Core.Bool.{Bool, true, false, cond, not, ◌&&◌, false≢true}
@@ -25,8 +26,6 @@ use Rattle.place.specs.declared.IncomingStage.TheVariants as arrival
 use Rattle.place.specs.declared.Incoming.{Incoming}
 use Rattle.table.specs.Own.{reply_for}
 use Rattle.table.specs.Incoming.{message_for, open_alike, free_incoming}
-use Rattle.table.specs.declared.Found.{Found}
-use Rattle.table.specs.declared.Found.TheVariants.{At, Nowhere}
 use Rattle.table.proofs.Finding.{reply_lowest, message_lowest}
 use Rattle.table.proofs.Tables.{own_table, incoming_table}
 use Rattle.exchange.specs.Note.{note_by}
@@ -103,15 +102,15 @@ incoming_freed (arrival.Replied n y) s e = refl
 -- ---- which blocks are for an incoming place
 
 -- the place that a new primary takes
-takes_found : (x : Exchange) (b : Header) (q : ℕ) (gone : Bool) → Takes x b q gone → taken_by (open_alike x.incoming b) (free_incoming x.incoming) ≡ At q
+takes_found : (x : Exchange) (b : Header) (q : ℕ) (gone : Bool) → Takes x b q gone → taken_by (open_alike x.incoming b) (free_incoming x.incoming) ≡ Some q
 takes_found x b q true e = rw e
 takes_found x b q false (e, f) = rw (e, f)
 
 -- nothing is seen of a block that is passed by, nor of a first one that is thrown out
-pub passed_by : (r m new : Found) (p : ℕ) (s : incoming.Seen) (b : Header) (size : ℕ) → sees_block r m new p own.passed s b size ≡ s
-passed_by (At q) m new p s b size = refl
-passed_by Nowhere (At q) new p s b size = same_either (eqb q p) s
-passed_by Nowhere Nowhere new p s b size = same_either (found_at new p) s
+pub passed_by : (r m new : Option ℕ) (p : ℕ) (s : incoming.Seen) (b : Header) (size : ℕ) → sees_block r m new p own.passed s b size ≡ s
+passed_by (Some q) m new p s b size = refl
+passed_by None (Some q) new p s b size = same_either (eqb q p) s
+passed_by None None new p s b size = same_either (found_at new p) s
 
 thrown_first : (n : Note) → Thrown n → (s : incoming.Seen) (b : Header) (size : ℕ) → incoming.sees_first (told_by n) s b size ≡ s
 thrown_first _ stray s b size = refl

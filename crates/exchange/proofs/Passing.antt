@@ -1,5 +1,6 @@
 -- Ticks, one after the other (`passes` of `specs/Assembly.antt`), place by place; and transactions that differ from others at one place
 -- alone, before ticks and after them. Assumes nothing.
+use Rattle.std.specs.Prelude.{Option, Some, None}
 use Prim.Native.Nat.{ℕ, zero, suc, ◌+◌, ◌≤◌, ◌<◌}
 use mathlib.Core.Path.{◌≡◌, refl, sym, ap, subst, ◌∙◌}
 use mathlib.Core.Bool.{true, false≢true, true≢false}
@@ -15,15 +16,11 @@ use Rattle.header.specs.Header.{header_of}
 use Rattle.header.specs.declared.header.Header.{Header}
 use Rattle.settings.specs.declared.terms.Terms.{Terms}
 use Rattle.settings.specs.Timer.{ticked as counted}
-use Rattle.settings.specs.declared.timer.Timer.{Timer}
-use Rattle.settings.specs.declared.timer.Timer.TheVariants.{RunsOut, Runs}
 use Rattle.settings.proofs.Timers.{runs}
 use Rattle.place.specs.Arriving.{waited_by, arriving_tick, arriving_after}
 use Rattle.place.specs.Own.{fresh_own, primary_of, ended, awaited_by, replying_by, await_tick, reply_tick, own_tick}
 use Rattle.place.specs.Incoming.{fresh_incoming, open_by, open_tick, incoming_tick}
 use Rattle.place.specs.declared.Arriving.{Arriving}
-use Rattle.place.specs.declared.Waited.{Waited}
-use Rattle.place.specs.declared.Waited.TheVariants.{Broken, Still}
 use Rattle.place.specs.declared.OwnStage.{OwnStage}
 use Rattle.place.specs.declared.OwnStage.TheVariants as own
 use Rattle.place.specs.declared.Own.{Own}
@@ -105,7 +102,7 @@ module _ (z : Side) (c : Terms) (x : Exchange) (q : ℕ) where
 -- ---- a timer that runs on
 
 -- T4
-arriving_on : (c : Terms) (a : Arriving) (n : ℕ) → n < c.t4.0 → arriving_tick c (arriving_after a n) ≡ Still (arriving_after a (n + 1))
+arriving_on : (c : Terms) (a : Arriving) (n : ℕ) → n < c.t4.0 → arriving_tick c (arriving_after a n) ≡ Some (arriving_after a (n + 1))
 unfolding arriving_tick
 arriving_on c a n less = ap (waited_by (arriving_after a n)) (runs c.t4 n less)
 
@@ -138,9 +135,9 @@ pub free_on : (c : Terms) (i : Incoming) → i.stage ≡ incoming.Free → (inco
 free_on c i e = rw e
 
 -- its header stays
-open_header : (i : Incoming) (w : Waited) → (open_by i w).header ≡ i.header
-open_header i Broken = refl
-open_header i (Still a) = refl
+open_header : (i : Incoming) (w : Option Arriving) → (open_by i w).header ≡ i.header
+open_header i None = refl
+open_header i (Some a) = refl
 
 -- an open message was open, with the same system bytes
 pub not_alike : (c : Terms) (b : Header) (i : Incoming) → (Alike b i → ⊥) → Alike b (incoming_tick c i) → ⊥
@@ -155,15 +152,15 @@ not_alike c b i = by i.stage
     by (incoming.Replied m e) n w = n w
 
 -- T3 or T4 runs on, or out, and the header stays
-awaited_header : (o : Own) (w : Timer) → (awaited_by o w).header ≡ o.header
+awaited_header : (o : Own) (w : Option ℕ) → (awaited_by o w).header ≡ o.header
 unfolding ended
-awaited_header o RunsOut = refl
-awaited_header o (Runs n) = refl
+awaited_header o None = refl
+awaited_header o (Some n) = refl
 
-replying_header : (o : Own) (w : Waited) → (replying_by o w).header ≡ o.header
+replying_header : (o : Own) (w : Option Arriving) → (replying_by o w).header ≡ o.header
 unfolding ended
-replying_header o Broken = refl
-replying_header o (Still a) = refl
+replying_header o None = refl
+replying_header o (Some a) = refl
 
 -- a reply is awaited, or blocks of it are kept, at a place whose primary has these system bytes
 abbrev pub Expects : ℕ → Own → Type 0

@@ -1,4 +1,5 @@
 -- The message being sent is the one that was accepted, or the report that started, last (`specs/Posting.antt`). Assumes nothing.
+use Rattle.std.specs.Prelude.{Option, Some, None, Ok, Err}
 use Prim.Native.Nat.{ℕ, ◌+◌, ◌*◌, ◌≤◌, ◌<◌}
 use mathlib.Core.Path.{◌≡◌, refl, sym, ap, ◌∙◌, subst}
 use mathlib.Core.Bool.{Bool, true, false, cond, false≢true}
@@ -25,8 +26,6 @@ use Rattle.place.specs.declared.IncomingStage.TheVariants as arrival
 use Rattle.place.specs.declared.Incoming.{Incoming}
 use Rattle.table.specs.Own.{reply_for}
 use Rattle.table.specs.Incoming.{message_for, open_alike, free_incoming}
-use Rattle.table.specs.declared.Found.{Found}
-use Rattle.table.specs.declared.Found.TheVariants.{At, Nowhere}
 use Rattle.reports.specs.declared.Reports.{Reports}
 use Rattle.exchange.specs.Exchange.{fresh_exchange, own_place, incoming_place, sent_from}
 use Rattle.exchange.specs.Tick.{tick_of}
@@ -54,8 +53,6 @@ use Rattle.exchange.specs.declared.OwnReading.{OwnReading}
 use Rattle.exchange.specs.declared.IncomingReading.{IncomingReading}
 use Rattle.exchange.specs.declared.Note.{Note}
 use Rattle.exchange.specs.declared.Note.TheVariants.{Kept, Misrouted, Duplicate, Stray, NoPlace, TooLong, Empty}
-use Rattle.exchange.specs.declared.Asked.{Asked}
-use Rattle.exchange.specs.declared.Asked.TheVariants.{Taken, Refused}
 use Rattle.exchange.specs.declared.Primary.{Primary}
 use Rattle.exchange.proofs.Accepting.{refused_number, refused_changes_nothing, accepted_opens, accepted_replies, accepted_releases}
 use Rattle.exchange.proofs.Same.{message_same, other_message}
@@ -72,6 +69,7 @@ use Rattle.exchange.proofs.Replies.{reply_watched_on}
 use Rattle.exchange.proofs.Repeated.{any_fresh}
 use Rattle.exchange.proofs.Another.{Numbered, call_numbered, begun_other}
 use Rattle.exchange.proofs.Numbering.{numbers_fresh, numbers_of, own_numbers, Moves, call_moves, put_out_shows, given_shown, numbers_kept_on}
+use Rattle.exchange.specs.Asked.{Asked}
 
 -- ---- what the onlookers of the places know of it
 
@@ -165,13 +163,13 @@ new_post c x y s other f n e =
 
 -- a request starts none
 pub asked_post : (c : Terms) (x y : Exchange) (s : Post) (r : Request) (a : Asked) → y.sending ≡ sending_after r a x.sending → post_reported c x y s ≡ s
-asked_post c x y s (primary q d) (Taken p) e =
+asked_post c x y s (primary q d) (Ok p) e =
     ap (λ (z : Sending). post_started c (same_message x.sending z) z y.reports.shown s) e
-asked_post c x y s (reply k f d) (Taken p) e =
+asked_post c x y s (reply k f d) (Ok p) e =
     ap (λ (z : Sending). post_started c (same_message x.sending z) z y.reports.shown s) e
-asked_post c x y s (freeing_own k) (Taken p) e = same_post c x y s e
-asked_post c x y s (freeing_incoming k) (Taken p) e = same_post c x y s e
-asked_post c x y s r (Refused n) e = same_post c x y s e
+asked_post c x y s (freeing_own k) (Ok p) e = same_post c x y s e
+asked_post c x y s (freeing_incoming k) (Ok p) e = same_post c x y s e
+asked_post c x y s r (Err n) e = same_post c x y s e
 
 -- Of two calls, in the second of which time passes, one starts at most: it is posted once.
 module _ (c : Terms) (x y v : Exchange) (s : Post) (numbered : Numbered y) (late : (v.sending ≡ y.sending) ⊎ ReportBegins y.sending v.sending) where
@@ -299,14 +297,14 @@ module _ (F : Type 0) (c : Terms) (x : Exchange) (room : List ℕ) (four : Fours
 
   asked : (r : Request) (a : Asked) → (answer_of c x r room).answer.asked ≡ a
       → (let z = (answer_of c x r room).answer.exchange in Holds F c z (post_asked c (incoming_reading x) (own_reading z) r a s))
-  asked r (Refused n) e =
+  asked r (Err n) e =
       subst (λ (z : Exchange). Holds F c z s) (sym (refused_changes_nothing c x r room (refused_number _ n e)).0) g.holds
-  asked (primary q d) (Taken p) e =
+  asked (primary q d) (Ok p) e =
       let o = accepted_opens c x q d room four p e in
       let z = (answer_of c x (primary q d) room).answer.exchange in
       began z (primary_asked c q (length d) (number_shown (own_reading z p))) o.header d (ap from_caller o.sending) (ap length_sent o.sending)
       (λ f. asked_for c x room four (g.numbers f).fits q d p _ _ o) o.outgoing (λ k f n r. let e = sym o.sending ∙ r in absurd (false≢true cc))
-  asked (reply k f d) (Taken p) e =
+  asked (reply k f d) (Ok p) e =
       let o = accepted_replies c x k f d room p e in
       let z = (answer_of c x (reply k f d) room).answer.exchange in
       let a = o.replies_to in
@@ -325,9 +323,9 @@ module _ (F : Type 0) (c : Terms) (x : Exchange) (room : List ℕ) (four : Fours
       })
       ∙ ap (λ (h : Header). reply_asked h f) (sym read))
       (λ t. o.outgoing) (λ j h n r. let e = sym o.sending ∙ r in cc)
-  asked (freeing_own k) (Taken p) e =
+  asked (freeing_own k) (Ok p) e =
       let o = accepted_releases.own c x k room p e in stays (request (freeing_own k)) o.sending (ap (λ (r : Reports). r.shown) o.reports)
-  asked (freeing_incoming k) (Taken p) e =
+  asked (freeing_incoming k) (Ok p) e =
       let o = accepted_releases.incoming c x k room p e in stays (request (freeing_incoming k)) o.sending (ap (λ (r : Reports). r.shown) o.reports)
 
   posted_on : (k : Call) → Holds F c (called c x room k).exchange (post_sees c x room s k)
@@ -377,15 +375,15 @@ outgoing_accepted c last room fits whole ks =
 -- ---- its data is what the onlooker of the areas has joined
 
 module _ (s : Joined) (d : List ℕ) where
-  new_out : (a f : Found) → (of_new a f s d).outgoing ≡ s.outgoing
-  new_out (At p) f = refl
-  new_out Nowhere (At p) = refl
-  new_out Nowhere Nowhere = refl
+  new_out : (a f : Option ℕ) → (of_new a f s d).outgoing ≡ s.outgoing
+  new_out (Some p) f = refl
+  new_out None (Some p) = refl
+  new_out None None = refl
 
-  joined_out : (r m a f : Found) → (of_reply r m a f s d).outgoing ≡ s.outgoing
-  joined_out (At p) m a f = refl
-  joined_out Nowhere (At p) a f = refl
-  joined_out Nowhere Nowhere a f = new_out a f
+  joined_out : (r m a f : Option ℕ) → (of_reply r m a f s d).outgoing ≡ s.outgoing
+  joined_out (Some p) m a f = refl
+  joined_out None (Some p) a f = refl
+  joined_out None None a f = new_out a f
 
 kept_out : (n : Note) (s more : Joined) → more.outgoing ≡ s.outgoing → (if_kept n s more).outgoing ≡ s.outgoing
 kept_out Kept s more e = e
@@ -409,11 +407,11 @@ module _ (c : Terms) (x : Exchange) (room : List ℕ) (four : Fours x) (j : Join
 
   asked_text : (r : Request) (a : Asked) (before : ℕ → IncomingReading) (after : ℕ → OwnReading) (z : Sending) → z ≡ sending_after r a x.sending → from_caller z ≡ true
       → (joins_asked r a j).outgoing ≡ (post_asked c before after r a s).text
-  asked_text (primary q d) (Taken p) before after z e t = refl
-  asked_text (reply k f d) (Taken p) before after z e t = refl
-  asked_text (freeing_own k) (Taken p) before after z e t = g (ap from_caller (sym e) ∙ t)
-  asked_text (freeing_incoming k) (Taken p) before after z e t = g (ap from_caller (sym e) ∙ t)
-  asked_text r (Refused n) before after z e t = g (ap from_caller (sym e) ∙ t)
+  asked_text (primary q d) (Ok p) before after z e t = refl
+  asked_text (reply k f d) (Ok p) before after z e t = refl
+  asked_text (freeing_own k) (Ok p) before after z e t = g (ap from_caller (sym e) ∙ t)
+  asked_text (freeing_incoming k) (Ok p) before after z e t = g (ap from_caller (sym e) ∙ t)
+  asked_text r (Err n) before after z e t = g (ap from_caller (sym e) ∙ t)
 
   text_on : (k : Call) → TextIs (called c x room k).exchange (sees c x room j k) (post_sees c x room s k)
   text_on (block h d) =

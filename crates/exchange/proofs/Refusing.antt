@@ -1,5 +1,6 @@
 -- Each refusal of a request exactly when its row says so (`specs/Refusals.antt`): the number is one choice after the other on the
 -- tests of `specs/Request.antt`. Assumes nothing.
+use Rattle.std.specs.Prelude.{Option, Some, None}
 use Prim.Native.Nat.{ℕ, ◌+◌, ◌%◌}
 use mathlib.Core.Path.{◌≡◌, refl, sym, ap, subst, ◌∙◌}
 use mathlib.Core.Bool.{Bool, true, false, cond, not, ◌&&◌, false≢true, true≢false}
@@ -20,8 +21,6 @@ use Rattle.place.specs.declared.IncomingStage.{IncomingStage}
 use Rattle.place.specs.declared.IncomingStage.TheVariants as incoming
 use Rattle.table.specs.Own.{free_own}
 use Rattle.table.proofs.Finding.{free_own_lowest}
-use Rattle.table.specs.declared.Found.{Found}
-use Rattle.table.specs.declared.Found.TheVariants.{At, Nowhere}
 use Rattle.exchange.specs.Exchange.{own_place, incoming_place}
 use Rattle.exchange.specs.Request.{Requesting, refused_by, refused, bad_primary, bad_function, data_long, sending_by, is_sending, not_ready, open_by, open_free, open_of, reply_accepted, reply_ready, reply_of, release_own, release_incoming}
 use Rattle.exchange.specs.Request as request
@@ -75,7 +74,7 @@ module _ (x : Exchange) (four : Fours x) where
   free_here : found (free_own x.own) ≡ true ↔ Somewhere (OwnFree x)
   free_here = somewhere _ _ _ (free_own_lowest x.own four.own) (λ p. own_is_free (own_place x p).stage)
 
-  pub lowest_free : (p : ℕ) → (free_own x.own ≡ At p) ↔ LowestAt (OwnFree x) p
+  pub lowest_free : (p : ℕ) → (free_own x.own ≡ Some p) ↔ LowestAt (OwnFree x) p
   lowest_free p = lowest _ _ _ (free_own_lowest x.own four.own) (λ q. own_is_free (own_place x q).stage) p
 
 -- 9: what stands for a place above 3 is free
@@ -142,10 +141,10 @@ abbrev open_number : Bool → Bool → Bool → Bool → ℕ
 open_number bad big busy room = cond bad 5 (cond big 6 (cond busy 7 (cond room 0 8)))
 
 module _ (c : Terms) (x : Exchange) (q : Primary) (d room : List ℕ) where
-  open_by_lem : (f : Found) → number (open_by f c x q d room) ≡ cond (found f) 0 8
+  open_by_lem : (f : Option ℕ) → number (open_by f c x q d room) ≡ cond (found f) 0 8
   unfolding refused refused_by
-  open_by_lem (At p) = refl
-  open_by_lem Nowhere = refl
+  open_by_lem (Some p) = refl
+  open_by_lem None = refl
 
   open_number_lem : number (open_of c x q d room) ≡ open_number (bad_primary q) (data_long (length d)) (is_sending x) (found (free_own x.own))
   unfolding open_of open_free refused refused_by

@@ -1,5 +1,6 @@
 -- The reports that wait, the one on its way and how many were dropped are those that an onlooker keeps (`specs/Reporting.antt`). Assumes
 -- nothing.
+use Rattle.std.specs.Prelude.{Option, Some, None, Ok, Err}
 use Prim.Native.Nat.{ℕ, ◌≤◌, ◌<◌}
 use mathlib.Core.Path.{◌≡◌, refl, sym, ap, ◌∙◌, subst}
 use mathlib.Core.Bool.{Bool, true, false, cond, not, ◌&&◌, false≢true, and-false}
@@ -13,8 +14,6 @@ use Rattle.header.specs.Header.{header_of, header_bytes}
 use Rattle.header.specs.declared.header.Header.{Header}
 use Rattle.settings.specs.Timer.{ticked}
 use Rattle.settings.specs.declared.terms.Terms.{Terms}
-use Rattle.settings.specs.declared.timer.Timer.{Timer}
-use Rattle.settings.specs.declared.timer.Timer.TheVariants.{RunsOut, Runs}
 use Rattle.place.specs.Arriving.{arriving_tick}
 use Rattle.place.specs.Fate.{fate_of}
 use Rattle.place.specs.Own.{fresh_own, primary_of, follows, verdict_of, standing_at, given_by, stage_at, ended, own_has_verdict, own_takes, replied, replied_by, own_offered, first_out, own_put_out, acknowledged, own_sent, own_failed, awaited_by, await_tick, replying_by, reply_tick, own_tick, own_released, own_kept}
@@ -23,8 +22,6 @@ use Rattle.place.specs.declared.Fate.{Fate}
 use Rattle.place.specs.declared.Fate.TheVariants as fate
 use Rattle.place.specs.declared.Verdict.{Verdict}
 use Rattle.place.specs.declared.Verdict.TheVariants.{Sent, Answered, Declined, Other, Broken, NoReply, SendFailed}
-use Rattle.place.specs.declared.Waited.{Waited}
-use Rattle.place.specs.declared.Waited.TheVariants as waited
 use Rattle.place.specs.declared.OwnStage.{OwnStage}
 use Rattle.place.specs.declared.OwnStage.TheVariants as stage
 use Rattle.place.specs.declared.Own.{Own}
@@ -56,8 +53,6 @@ use Rattle.exchange.specs.declared.Sending.TheVariants as sending
 use Rattle.exchange.specs.declared.Outbox.{Outbox}
 use Rattle.exchange.specs.declared.Exchange.{Exchange}
 use Rattle.exchange.specs.declared.Refusal.{Refusal}
-use Rattle.exchange.specs.declared.Asked.{Asked}
-use Rattle.exchange.specs.declared.Asked.TheVariants.{Taken, Refused}
 use Rattle.exchange.specs.declared.Primary.{Primary}
 use Rattle.exchange.proofs.Accepting.{accepted_opens}
 use Rattle.exchange.proofs.BeingSent.{sending_ends, sent_none, failed_none}
@@ -70,6 +65,8 @@ use Rattle.exchange.proofs.OneCall.{call}
 use Rattle.exchange.proofs.Repeated.{any_fresh}
 use Rattle.exchange.proofs.Numbering.{read, shown, same_gets, numbers_kept_on, numbers_fresh}
 use Rattle.exchange.proofs.Posting.{asked_for}
+use Rattle.place.specs.declared.Arriving.{Arriving}
+use Rattle.exchange.specs.Asked.{Asked}
 
 -- ---- the header of a place in use
 
@@ -140,15 +137,15 @@ module _ (h : List ℕ) where
   failed_keeps (stage.Replying a) = still
   failed_keeps (stage.Done v r) = still
 
-  awaited_keeps : (z : OwnStage) → in_use (read (at h z)) ≡ true → (t : Timer) → Goes true (at h z) (awaited_by (at h z) t)
+  awaited_keeps : (z : OwnStage) → in_use (read (at h z)) ≡ true → (t : Option ℕ) → Goes true (at h z) (awaited_by (at h z) t)
   unfolding ended
-  awaited_keeps z e RunsOut = moved _ e refl
-  awaited_keeps z e (Runs n) = moved _ e refl
+  awaited_keeps z e None = moved _ e refl
+  awaited_keeps z e (Some n) = moved _ e refl
 
-  waited_keeps : (z : OwnStage) → in_use (read (at h z)) ≡ true → (w : Waited) → Goes true (at h z) (replying_by (at h z) w)
+  waited_keeps : (z : OwnStage) → in_use (read (at h z)) ≡ true → (w : Option Arriving) → Goes true (at h z) (replying_by (at h z) w)
   unfolding ended
-  waited_keeps z e waited.Broken = moved _ e refl
-  waited_keeps z e (waited.Still a) = moved _ e refl
+  waited_keeps z e None = moved _ e refl
+  waited_keeps z e (Some a) = moved _ e refl
 
   tick_keeps : (c : Terms) (z : OwnStage) → Goes true (at h z) (own_tick c (at h z))
   unfolding await_tick reply_tick
@@ -298,7 +295,7 @@ module _ (c : Terms) (x : Exchange) (room : List ℕ) (four : Fours x) where
   block_none h d p = either_none (found_at (reply_for x.own (header_of h)) p) _ _ (answered_none (told_by (judge_of c x h d room).answer.note) (header_of h) (length d)) refl
 
   -- a request that is refused
-  pub refused_none : (r : Request) (n : Refusal) → (answer_of c x r room).answer.asked ≡ Refused n → NoneSeen (request r)
+  pub refused_none : (r : Request) (n : Refusal) → (answer_of c x r room).answer.asked ≡ Err n → NoneSeen (request r)
   refused_none r n e p = rw e
 
   pub reply_none : (k f : ℕ) (d : List ℕ) → NoneSeen (request (reply k f d))
@@ -311,7 +308,7 @@ module _ (c : Terms) (x : Exchange) (room : List ℕ) (four : Fours x) where
   free_incoming_none k p = either_none (taken_at (answer_of c x (freeing_incoming k) room).answer.asked p) _ _ refl refl
 
   -- a primary that is accepted: its place keeps what was asked for, with the number that it shows
-  primary_headed : x.numbers.last ≤ 65535 → (q : Primary) (d : List ℕ) (p : ℕ) → (answer_of c x (primary q d) room).answer.asked ≡ Taken p
+  primary_headed : x.numbers.last ≤ 65535 → (q : Primary) (d : List ℕ) (p : ℕ) → (answer_of c x (primary q d) room).answer.asked ≡ Ok p
       → (f : ℕ → List ℕ) → Headed x f
       → (let z = (answer_of c x (primary q d) room).answer.exchange in Headed z (anew f p (header_bytes (primary_asked c q (length d) (number_shown (own_reading z p))))))
   unfolding own_reading
@@ -367,7 +364,7 @@ module _ (c : Terms) (x : Exchange) (room : List ℕ) (four : Fours x) where
   failed_six = quiet_six failed (λ p. either_none (sent_from x.sending p) _ _ refl refl) (λ p. either_zero (sent_from x.sending p) _ _ refl refl)
 
   -- a primary that is accepted has none
-  opened_six : (q : Primary) (d : List ℕ) (p : ℕ) → (answer_of c x (primary q d) room).answer.asked ≡ Taken p → NoSix (request (primary q d))
+  opened_six : (q : Primary) (d : List ℕ) (p : ℕ) → (answer_of c x (primary q d) room).answer.asked ≡ Ok p → NoSix (request (primary q d))
   unfolding own_reading
   opened_six q d p e k less =
       let z = (answer_of c x (primary q d) room).answer.exchange in
@@ -377,15 +374,15 @@ module _ (c : Terms) (x : Exchange) (room : List ℕ) (four : Fours x) where
       (λ t. ap (λ (i : Own). gets is_six (own_reading x k) (read i)) (o.others k (eqb-false k p t)) ∙ same_gets is_six (own_reading x k))
 
   asked_six : (r : Request) (a : Asked) → (answer_of c x r room).answer.asked ≡ a → NoSix (request r)
-  asked_six (primary q d) (Taken p) e = opened_six q d p e
-  asked_six (reply k f d) (Taken p) e =
+  asked_six (primary q d) (Ok p) e = opened_six q d p e
+  asked_six (reply k f d) (Ok p) e =
       quiet_six (request (reply k f d)) (reply_none c x room four k f d) (λ q. either_zero (taken_at (answer_of c x (reply k f d) room).answer.asked q) _ _ refl refl)
-  asked_six (freeing_own k) (Taken p) e =
+  asked_six (freeing_own k) (Ok p) e =
       quiet_six (request (freeing_own k)) (free_own_none c x room four k) (λ q. either_zero (taken_at (answer_of c x (freeing_own k) room).answer.asked q) _ _ refl refl)
-  asked_six (freeing_incoming k) (Taken p) e =
+  asked_six (freeing_incoming k) (Ok p) e =
       quiet_six (request (freeing_incoming k)) (free_incoming_none c x room four k)
       (λ q. either_zero (taken_at (answer_of c x (freeing_incoming k) room).answer.asked q) _ _ refl refl)
-  asked_six r (Refused n) e = quiet_six (request r) (refused_none c x room four r n e) (λ p. rw e)
+  asked_six r (Err n) e = quiet_six (request r) (refused_none c x room four r n e) (λ p. rw e)
 
   pub request_six : (r : Request) → NoSix (request r)
   request_six r = asked_six r (answer_of c x r room).answer.asked refl
@@ -571,12 +568,12 @@ module _ (c : Terms) (x : Exchange) (room : List ℕ) (four : Fours x) (s : Repo
   -- the primaries of a request that was refused, or accepted
   asked_headed : x.numbers.last ≤ 65535 → (r : Request) (a : Asked) → (answer_of c x r room).answer.asked ≡ a
       → (let z = (answer_of c x r room).answer.exchange in Headed z (reporter_asked c (own_reading z) r a s).primaries)
-  asked_headed fits (primary q d) (Taken p) e = primary_headed c x room four fits q d p e s.primaries w.primaries
-  asked_headed fits (reply k f d) (Taken p) e = headed_on c x room four (request (reply k f d)) s.primaries (reply_none c x room four k f d) w.primaries
-  asked_headed fits (freeing_own k) (Taken p) e = headed_on c x room four (request (freeing_own k)) s.primaries (free_own_none c x room four k) w.primaries
-  asked_headed fits (freeing_incoming k) (Taken p) e =
+  asked_headed fits (primary q d) (Ok p) e = primary_headed c x room four fits q d p e s.primaries w.primaries
+  asked_headed fits (reply k f d) (Ok p) e = headed_on c x room four (request (reply k f d)) s.primaries (reply_none c x room four k f d) w.primaries
+  asked_headed fits (freeing_own k) (Ok p) e = headed_on c x room four (request (freeing_own k)) s.primaries (free_own_none c x room four k) w.primaries
+  asked_headed fits (freeing_incoming k) (Ok p) e =
       headed_on c x room four (request (freeing_incoming k)) s.primaries (free_incoming_none c x room four k) w.primaries
-  asked_headed fits r (Refused n) e = headed_on c x room four (request r) s.primaries (refused_none c x room four r n e) w.primaries
+  asked_headed fits r (Err n) e = headed_on c x room four (request r) s.primaries (refused_none c x room four r n e) w.primaries
 
   call_on : x.numbers.last ≤ 65535 → (k : Call) → On k
   call_on fits (block h d) = block_on h d

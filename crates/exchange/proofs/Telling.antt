@@ -1,4 +1,5 @@
 -- Each call raises the flags of what it does to the places. Assumes nothing.
+use Rattle.std.specs.Prelude.{None}
 use Prim.Native.Nat.{ℕ, zero, suc, ◌≤◌, ◌<◌}
 use mathlib.Core.Path.{◌≡◌, refl, sym, ap, ◌∙◌, subst}
 use mathlib.Core.Bool.{Bool, true, false, false≢true}
@@ -29,7 +30,6 @@ use Rattle.place.specs.declared.OwnStage.TheVariants as stage
 use Rattle.place.specs.declared.Own.{Own}
 use Rattle.table.specs.Own.{own_at, reply_for}
 use Rattle.table.specs.Incoming.{incoming_at, message_for}
-use Rattle.table.specs.declared.Found.TheVariants.{Nowhere}
 use Rattle.table.proofs.Finding.{message_lowest, open_alike_lowest}
 use Rattle.exchange.specs.Flags.{no_marks, no_flags, verdict_flag, incoming_flags}
 use Rattle.exchange.specs.Exchange.{own_place, incoming_place, got_verdict, put_own, put_incoming, with_sending, put_replied, saved_now}
@@ -119,8 +119,8 @@ kept_fits b n =
 
 module _ (c : Terms) (x : Exchange) (four : Fours x) (h d : List ℕ) where
   -- a new primary that takes the place of an open message throws that one out
-  throws_out : (p : ℕ) (gone : Bool) (f : Fate) → Passed c x h → reply_for x.own (header_of h) ≡ Nowhere
-      → message_for x.incoming (header_of h) ≡ Nowhere → begins_primary (header_of h) ≡ true → fate_of (header_of h) 0 (length d) ≡ f
+  throws_out : (p : ℕ) (gone : Bool) (f : Fate) → Passed c x h → reply_for x.own (header_of h) ≡ None
+      → message_for x.incoming (header_of h) ≡ None → begins_primary (header_of h) ≡ true → fate_of (header_of h) 0 (length d) ≡ f
       → spoilt_by f ≡ false → Takes x (header_of h) p gone → gone ≡ true → ThrowsOut c x h d p
   throws_out p true f q r m o e s t g =
       let fit = kept_fits (header_of h) (length d) (ap spoilt_by e ∙ s) in

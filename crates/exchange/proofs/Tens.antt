@@ -1,6 +1,7 @@
 -- Every header that is kept to be shown by a report has ten bytes, as "the ten header bytes of the offending block" (02, request 2) have: those
 -- of the own places, of the reports that wait, and of the one on its way, after any calls whose blocks have a header of ten. So a report is
 -- one block of twelve data bytes. Assumes nothing.
+use Rattle.std.specs.Prelude.{Ok, Err}
 use Prim.Native.Nat.{ℕ, zero, suc, ◌<◌}
 use mathlib.Core.Path.{◌≡◌, refl, sym, ap, subst, ◌∙◌}
 use mathlib.Core.Bool.{false}
@@ -27,8 +28,6 @@ use Rattle.exchange.specs.Rules.{Fours}
 use Rattle.exchange.specs.History.{Call, block, tick, put_out, acknowledged, failed, request, called}
 use Rattle.exchange.specs.declared.Outbox.{Outbox}
 use Rattle.exchange.specs.declared.Exchange.{Exchange}
-use Rattle.exchange.specs.declared.Asked.{Asked}
-use Rattle.exchange.specs.declared.Asked.TheVariants.{Taken, Refused}
 use Rattle.exchange.specs.declared.Primary.{Primary}
 use Rattle.exchange.proofs.Unreported.{such_freed, such_judged, such_ticked}
 use Rattle.exchange.proofs.Accepting.{accepted_opens}
@@ -36,6 +35,7 @@ use Rattle.exchange.proofs.Boxes.{rules_spare}
 use Rattle.exchange.proofs.Cases.{by_request}
 use Rattle.exchange.proofs.Repeated.{any_fresh}
 use Rattle.exchange.proofs.Reporting.{same_header, NoneSeen, keeps_on, either_none, block_none, refused_none, reply_none, free_own_none, free_incoming_none, out_spares, sent_spares}
+use Rattle.exchange.specs.Asked.{Asked}
 
 -- ---- ten bytes
 
@@ -130,7 +130,7 @@ module _ (c : Terms) (x : Exchange) (room : List ℕ) (four : Fours x) (w : Tens
   kept_tens k none p less = ap (λ (h : List ℕ). length h) (same_header (keeps_on c x room four k none p less)) ∙ w.own p less
 
   -- one that does gives its place the header of the primary
-  opened_tens : (q : Primary) (d : List ℕ) (p : ℕ) → (answer_of c x (primary q d) room).answer.asked ≡ Taken p → OwnTens (answer_of c x (primary q d) room).answer.exchange
+  opened_tens : (q : Primary) (d : List ℕ) (p : ℕ) → (answer_of c x (primary q d) room).answer.asked ≡ Ok p → OwnTens (answer_of c x (primary q d) room).answer.exchange
   opened_tens q d p e k less =
       let o = accepted_opens c x q d room four p e in
       let z = (answer_of c x (primary q d) room).answer.exchange in
@@ -139,11 +139,11 @@ module _ (c : Terms) (x : Exchange) (room : List ℕ) (four : Fours x) (w : Tens
       (λ t. subst (λ (a : Own). Ten a.header) (sym (o.others k (eqb-false k p t))) (w.own k less))
 
   asked_tens : (r : Request) (a : Asked) → (answer_of c x r room).answer.asked ≡ a → OwnTens (answer_of c x r room).answer.exchange
-  asked_tens (primary q d) (Taken p) e = opened_tens q d p e
-  asked_tens (reply k f d) (Taken p) e = kept_tens (request (reply k f d)) (reply_none c x room four k f d)
-  asked_tens (freeing_own k) (Taken p) e = kept_tens (request (freeing_own k)) (free_own_none c x room four k)
-  asked_tens (freeing_incoming k) (Taken p) e = kept_tens (request (freeing_incoming k)) (free_incoming_none c x room four k)
-  asked_tens r (Refused n) e = kept_tens (request r) (refused_none c x room four r n e)
+  asked_tens (primary q d) (Ok p) e = opened_tens q d p e
+  asked_tens (reply k f d) (Ok p) e = kept_tens (request (reply k f d)) (reply_none c x room four k f d)
+  asked_tens (freeing_own k) (Ok p) e = kept_tens (request (freeing_own k)) (free_own_none c x room four k)
+  asked_tens (freeing_incoming k) (Ok p) e = kept_tens (request (freeing_incoming k)) (free_incoming_none c x room four k)
+  asked_tens r (Err n) e = kept_tens (request r) (refused_none c x room four r n e)
 
   -- the reports of x, where they stayed
   same_tens : (r : Reports) → r ≡ x.reports → TensKept r

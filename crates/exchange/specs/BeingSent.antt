@@ -1,6 +1,6 @@
 -- The one message that is "being sent or held" (01, refusal 7): which calls start it and which end it. Each proof is in
 -- `proofs/BeingSent.antt`.
-use Rattle.std.specs.Prelude.{ℕ, ◌≡◌, true, false, ◌⊎◌, ◌≢◌, List, length}
+use Rattle.std.specs.Prelude.{ℕ, ◌≡◌, true, false, ◌⊎◌, ◌≢◌, List, length, Ok, Err}
 use Rattle.settings.specs.declared.terms.Terms.{Terms}
 use Rattle.exchange.specs.Exchange.{sent_from}
 use Rattle.exchange.specs.Tick.{tick_of}
@@ -10,8 +10,7 @@ use Rattle.exchange.specs.Request.{is_sending, Request, primary, reply, freeing_
 use Rattle.exchange.specs.declared.Sending.{Sending}
 use Rattle.exchange.specs.declared.Sending.TheVariants as sending
 use Rattle.exchange.specs.declared.Exchange.{Exchange}
-use Rattle.exchange.specs.declared.Asked.{Asked}
-use Rattle.exchange.specs.declared.Asked.TheVariants.{Taken, Refused}
+use Rattle.exchange.specs.Asked.{Asked}
 
 -- ---- a request
 
@@ -24,8 +23,8 @@ sending_behind (freeing_incoming k) p z = z
 
 -- a refused one leaves it as it was
 abbrev pub sending_after : Request → Asked → Sending → Sending
-sending_after r (Taken p) z = sending_behind r p z
-sending_after r (Refused n) z = z
+sending_after r (Ok p) z = sending_behind r p z
+sending_after r (Err n) z = z
 
 -- an accepted request to which memory is lent: "one message sent at a time"
 pub record Starts (x y : Exchange) : Type 0 where
@@ -35,7 +34,7 @@ pub record Starts (x y : Exchange) : Type 0 where
 
 pub record SendsBy (c : Terms) (x : Exchange) (r : Request) (room : List ℕ) : Type 0 where
   pub becomes : (answer_of c x r room).answer.exchange.sending ≡ sending_after r (answer_of c x r room).answer.asked x.sending
-  pub starts : (p : ℕ) → (answer_of c x r room).answer.asked ≡ Taken p → lends r ≡ true → Starts x (answer_of c x r room).answer.exchange
+  pub starts : (p : ℕ) → (answer_of c x r room).answer.asked ≡ Ok p → lends r ≡ true → Starts x (answer_of c x r room).answer.exchange
   -- a release has no part in what is being sent
   pub spares : lends r ≡ false → (answer_of c x r room).answer.exchange.sending ≡ x.sending
 

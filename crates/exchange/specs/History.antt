@@ -1,12 +1,10 @@
 -- Calls on the transactions, in any order, and an onlooker. The onlooker sees what is called, what is answered, and to which
 -- message each block that is kept belongs; it joins the data of these blocks.
-use Rattle.std.specs.Prelude.{ℕ, cond, List, [], ◌∷◌, ◌++◌, eqb}
+use Rattle.std.specs.Prelude.{ℕ, cond, List, [], ◌∷◌, ◌++◌, eqb, Option, Some, None, Ok, Err}
 use Rattle.header.specs.Header.{header_of}
 use Rattle.settings.specs.declared.terms.Terms.{Terms}
 use Rattle.table.specs.Own.{reply_for}
 use Rattle.table.specs.Incoming.{message_for, open_alike, free_incoming}
-use Rattle.table.specs.declared.Found.{Found}
-use Rattle.table.specs.declared.Found.TheVariants.{At, Nowhere}
 use Rattle.exchange.specs.Exchange.{fresh_exchange}
 use Rattle.exchange.specs.Tick.{tick_of}
 use Rattle.exchange.specs.Send.{put_out_of, sent_of, failed_of}
@@ -15,8 +13,7 @@ use Rattle.exchange.specs.Request.{Requesting, Request, primary, reply, freeing_
 use Rattle.exchange.specs.declared.Note.{Note}
 use Rattle.exchange.specs.declared.Note.TheVariants.{Kept, Misrouted, Duplicate, Stray, NoPlace, TooLong, Empty}
 use Rattle.exchange.specs.declared.Exchange.{Exchange}
-use Rattle.exchange.specs.declared.Asked.{Asked}
-use Rattle.exchange.specs.declared.Asked.TheVariants.{Taken, Refused}
+use Rattle.exchange.specs.Asked.{Asked}
 
 -- A block went up, with its ten header bytes and its data; 0.1 s passed; the last block of the message being sent was put out, at the first
 -- attempt or again; it was acknowledged; a block of the message failed; something is asked for.
@@ -65,18 +62,18 @@ abbrev pub anew : (ℕ → List ℕ) → ℕ → List ℕ → ℕ → List ℕ
 anew f p bs q = cond (eqb q p) bs (f q)
 
 -- the data of a block that is kept: of a reply; of an open message; of a new one in the place it takes
-abbrev pub of_new : Found → Found → Joined → List ℕ → Joined
-of_new (At p) free s d = record { replies = s.replies; messages = anew s.messages p d; outgoing = s.outgoing }
-of_new Nowhere (At p) s d = record { replies = s.replies; messages = anew s.messages p d; outgoing = s.outgoing }
-of_new Nowhere Nowhere s d = s
+abbrev pub of_new : Option ℕ → Option ℕ → Joined → List ℕ → Joined
+of_new (Some p) free s d = record { replies = s.replies; messages = anew s.messages p d; outgoing = s.outgoing }
+of_new None (Some p) s d = record { replies = s.replies; messages = anew s.messages p d; outgoing = s.outgoing }
+of_new None None s d = s
 
-abbrev pub of_message : Found → Found → Found → Joined → List ℕ → Joined
-of_message (At p) alike free s d = record { replies = s.replies; messages = anew s.messages p (s.messages p ++ d); outgoing = s.outgoing }
-of_message Nowhere alike free s d = of_new alike free s d
+abbrev pub of_message : Option ℕ → Option ℕ → Option ℕ → Joined → List ℕ → Joined
+of_message (Some p) alike free s d = record { replies = s.replies; messages = anew s.messages p (s.messages p ++ d); outgoing = s.outgoing }
+of_message None alike free s d = of_new alike free s d
 
-abbrev pub of_reply : Found → Found → Found → Found → Joined → List ℕ → Joined
-of_reply (At p) message alike free s d = record { replies = anew s.replies p (s.replies p ++ d); messages = s.messages; outgoing = s.outgoing }
-of_reply Nowhere message alike free s d = of_message message alike free s d
+abbrev pub of_reply : Option ℕ → Option ℕ → Option ℕ → Option ℕ → Joined → List ℕ → Joined
+of_reply (Some p) message alike free s d = record { replies = anew s.replies p (s.replies p ++ d); messages = s.messages; outgoing = s.outgoing }
+of_reply None message alike free s d = of_message message alike free s d
 
 abbrev pub joins : Exchange → List ℕ → Joined → List ℕ → Joined
 joins x h s d =
@@ -100,8 +97,8 @@ joins_taken (freeing_own k) p s = s
 joins_taken (freeing_incoming k) p s = s
 
 abbrev pub joins_asked : Request → Asked → Joined → Joined
-joins_asked r (Taken p) s = joins_taken r p s
-joins_asked r (Refused n) s = s
+joins_asked r (Ok p) s = joins_taken r p s
+joins_asked r (Err n) s = s
 
 abbrev pub sees : Terms → Exchange → List ℕ → Joined → Call → Joined
 sees c x room s (block h d) = if_kept (judge_of c x h d room).answer.note s (joins x h s d)

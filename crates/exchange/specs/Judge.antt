@@ -1,5 +1,5 @@
 -- Judging a block that went up (01, "A block that goes up is judged in this order"; E4 7.4), and what is reported of it (02, request 2).
-use Rattle.std.specs.Prelude.{ℕ, Bool, true, false, cond, not, ◌&&◌, List, [], ◌∷◌, eqb, length}
+use Rattle.std.specs.Prelude.{ℕ, Bool, true, false, cond, not, ◌&&◌, List, [], ◌∷◌, eqb, length, Option, Some, None}
 use Rattle.header.specs.Header.{header_of}
 use Rattle.header.specs.declared.header.Header.{Header}
 use Rattle.settings.specs.declared.terms.Terms.{Terms}
@@ -16,8 +16,6 @@ use Rattle.place.specs.declared.Own.{Own}
 use Rattle.place.specs.declared.Incoming.{Incoming}
 use Rattle.table.specs.Own.{reply_for}
 use Rattle.table.specs.Incoming.{free_incoming, message_for, open_alike}
-use Rattle.table.specs.declared.Found.{Found}
-use Rattle.table.specs.declared.Found.TheVariants.{At, Nowhere}
 use Rattle.exchange.specs.Note.{note_by}
 use Rattle.exchange.specs.Flags.{no_flags, verdict_flag, incoming_flags}
 use Rattle.exchange.specs.Exchange.{own_place, incoming_place, got_verdict, put_replied, put_incoming, saved_now}
@@ -122,14 +120,14 @@ begins_at x p h gone last d room =
     (kept_in room (message.Incoming p) 0 d)
 
 -- "note 25 exactly if all four are in use"
-abbrev pub in_free : Found → Exchange → Header → Bool → List ℕ → List ℕ → Judging
-in_free (At p) x h last d room = begins_at x p h false last d room
-in_free Nowhere x h last d room = thrown x NoPlace room
+abbrev pub in_free : Option ℕ → Exchange → Header → Bool → List ℕ → List ℕ → Judging
+in_free (Some p) x h last d room = begins_at x p h false last d room
+in_free None x h last d room = thrown x NoPlace room
 
 -- 6: "throws that one out and takes its place .. Otherwise it takes the lowest free incoming place"
-abbrev pub in_place : Found → Exchange → Header → Bool → List ℕ → List ℕ → Judging
-in_place (At p) x h last d room = begins_at x p h true last d room
-in_place Nowhere x h last d room = in_free (free_incoming x.incoming) x h last d room
+abbrev pub in_place : Option ℕ → Exchange → Header → Bool → List ℕ → List ℕ → Judging
+in_place (Some p) x h last d room = begins_at x p h true last d room
+in_place None x h last d room = in_free (free_incoming x.incoming) x h last d room
 
 unfoldable pub takes_place : Exchange → Header → Bool → List ℕ → List ℕ → Judging
 takes_place x h last d room = in_place (open_alike x.incoming h) x h last d room
@@ -150,16 +148,16 @@ primary_block x h d room = primary_by (fate_of h 0 (length d)) x h d room
 unfoldable pub or_primary : Exchange → Header → List ℕ → List ℕ → Judging
 or_primary x h d room = cond (begins_primary h) (primary_block x h d room) (thrown x Stray room)
 
-abbrev pub of_message : Found → Exchange → Header → List ℕ → List ℕ → Judging
-of_message (At p) x h d room = message_block x p h d room
-of_message Nowhere x h d room = or_primary x h d room
+abbrev pub of_message : Option ℕ → Exchange → Header → List ℕ → List ℕ → Judging
+of_message (Some p) x h d room = message_block x p h d room
+of_message None x h d room = or_primary x h d room
 
 unfoldable pub no_reply_block : Exchange → Header → List ℕ → List ℕ → Judging
 no_reply_block x h d room = of_message (message_for x.incoming h) x h d room
 
-abbrev pub of_reply : Found → Exchange → Header → List ℕ → List ℕ → Judging
-of_reply (At p) x h d room = reply_block x p h d room
-of_reply Nowhere x h d room = no_reply_block x h d room
+abbrev pub of_reply : Option ℕ → Exchange → Header → List ℕ → List ℕ → Judging
+of_reply (Some p) x h d room = reply_block x p h d room
+of_reply None x h d room = no_reply_block x h d room
 
 -- "Continues an open message .. or is the first block of an awaited reply .. If it is neither .."
 unfoldable pub new_block : Exchange → Header → List ℕ → List ℕ → Judging

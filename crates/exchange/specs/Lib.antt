@@ -1,5 +1,6 @@
 pub mod Note
 pub mod Flags
+pub mod Asked
 pub mod Exchange
 pub mod Request
 pub mod Reports

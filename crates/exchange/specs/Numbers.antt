@@ -2,7 +2,7 @@
 -- "Messages"), over every list of calls from a fresh start. An onlooker keeps them too: by what is called and answered, and by what a
 -- user reads of the own places before and after each call (`specs/Reading.antt`). And what one call does to either, whatever an onlooker
 -- keeps. Each proof is in `proofs/Numbering.antt`.
-use Rattle.std.specs.Prelude.{ℕ, ◌%◌, ◌≤◌, ◌<◌, ◌≡◌, Bool, true, false, cond, not, ◌&&◌, List, ◌≢◌, length}
+use Rattle.std.specs.Prelude.{ℕ, ◌%◌, ◌≤◌, ◌<◌, ◌≡◌, Bool, true, false, cond, not, ◌&&◌, List, ◌≢◌, length, Ok, Err}
 use Rattle.header.specs.declared.header.Header.{Header}
 use Rattle.settings.specs.declared.terms.Terms.{Terms}
 use Rattle.place.specs.declared.Verdict.{Verdict}
@@ -22,9 +22,8 @@ use Rattle.exchange.specs.declared.Sending.TheVariants as sending
 use Rattle.exchange.specs.declared.Exchange.{Exchange}
 use Rattle.exchange.specs.declared.OwnReading.{OwnReading}
 use Rattle.exchange.specs.declared.OwnReading.TheVariants.{NoPlace, Place}
-use Rattle.exchange.specs.declared.Asked.{Asked}
-use Rattle.exchange.specs.declared.Asked.TheVariants.{Taken, Refused}
 use Rattle.exchange.specs.declared.Primary.{Primary}
+use Rattle.exchange.specs.Asked.{Asked}
 
 -- ---- what is read of an own place
 
@@ -92,8 +91,8 @@ last_by (freeing_incoming p) after last = last
 
 -- one that was refused uses none up
 abbrev pub last_asked : Request → Asked → (ℕ → OwnReading) → ℕ → ℕ
-last_asked r (Taken p) after last = last_by r (after p) last
-last_asked r (Refused n) after last = last
+last_asked r (Ok p) after last = last_by r (after p) last
+last_asked r (Err n) after last = last
 
 -- a report that started shows its number in what is being sent: "a new transaction number, taken when the report starts" (02, request 2).
 -- `same` is whether the same message was being sent before.
@@ -159,7 +158,7 @@ pub record GivesNumber (c : Terms) (x : Exchange) (room : List ℕ) (k : Call) :
   pub rest : List ℕ
   pub place : ℕ
   pub so : k ≡ request (primary header rest)
-  pub taken : (answer_of c x (primary header rest) room).answer.asked ≡ Taken place
+  pub taken : (answer_of c x (primary header rest) room).answer.asked ≡ Ok place
 
 -- a report is being sent behind a call, and not the same one before it
 pub record StartsReport (before after : Exchange) : Type 0 where
@@ -236,7 +235,7 @@ pub record NumberNew (x : Exchange) (s : NumbersSeen) (number : ℕ) : Type 0 wh
 abbrev pub NumberDistinct : Type 0
 NumberDistinct =
     (c : Terms) (x : Exchange) → Fours x → (s : NumbersSeen) → NumbersAre x s → (q : Primary) (d room : List ℕ) (p : ℕ)
-    → (open_of c x q d room).answer.asked ≡ Taken p
+    → (open_of c x q d room).answer.asked ≡ Ok p
     → NumberNew x s (number_shown (own_reading (open_of c x q d room).answer.exchange p))
 
 -- and so is that of a report which starts, of the places and the latest verdict as they are then

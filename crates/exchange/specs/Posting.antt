@@ -2,7 +2,7 @@
 -- goes by requests and their answers, and by what a user reads of the places and of what is being sent; of the message that was accepted, or
 -- of the report that started, last it keeps the header and the data. The ten bytes that a report shows are taken from the state; which they
 -- are: `ReportsKept` (specs/Reporting.antt). Each proof is in `proofs/Posting.antt`.
-use Rattle.std.specs.Prelude.{ℕ, ◌+◌, ◌*◌, ◌≤◌, ◌≡◌, Bool, true, false, not, List, [], ◌∷◌, length}
+use Rattle.std.specs.Prelude.{ℕ, ◌+◌, ◌*◌, ◌≤◌, ◌≡◌, Bool, true, false, not, List, [], ◌∷◌, length, Ok, Err}
 use Rattle.cut.specs.Blocks.{block_count}
 use Rattle.header.specs.Header.{InRange}
 use Rattle.header.specs.declared.header.Header.{Header}
@@ -22,9 +22,8 @@ use Rattle.exchange.specs.declared.Exchange.{Exchange}
 use Rattle.exchange.specs.declared.OwnReading.{OwnReading}
 use Rattle.exchange.specs.declared.IncomingReading.{IncomingReading}
 use Rattle.exchange.specs.declared.Outgoing.TheVariants as outgoing
-use Rattle.exchange.specs.declared.Asked.{Asked}
-use Rattle.exchange.specs.declared.Asked.TheVariants.{Taken, Refused}
 use Rattle.exchange.specs.declared.Primary.{Primary}
+use Rattle.exchange.specs.Asked.{Asked}
 
 -- ---- a message as it was accepted
 
@@ -85,8 +84,8 @@ post_taken c before after (freeing_incoming k) p s = s
 
 -- one that was refused does not either
 abbrev pub post_asked : Terms → (ℕ → IncomingReading) → (ℕ → OwnReading) → Request → Asked → Post → Post
-post_asked c before after r (Taken p) s = post_taken c before after r p s
-post_asked c before after r (Refused n) s = s
+post_asked c before after r (Ok p) s = post_taken c before after r p s
+post_asked c before after r (Err n) s = s
 
 -- what is being sent behind a call is a report, and the same was not before: it shows these ten bytes
 abbrev pub post_started : Terms → Bool → Sending → List ℕ → Post → Post

@@ -1,6 +1,6 @@
 -- The refusals of a request: the rows 5 to 11 of 01's table, each in 01's words over the places, their order, "9, 10, 11, 5, 6, 7, 8",
 -- and what is proved of the requests by them. Each proof is in `proofs/`.
-use Rattle.std.specs.Prelude.{ℕ, ◌+◌, ◌*◌, ◌%◌, ◌<◌, ◌≡◌, true, false, not, List, ◌↔◌, ◌⊎◌, ◌≢◌, length}
+use Rattle.std.specs.Prelude.{ℕ, ◌+◌, ◌*◌, ◌%◌, ◌<◌, ◌≡◌, true, false, not, List, ◌↔◌, ◌⊎◌, ◌≢◌, length, Ok}
 use Rattle.wire.specs.Message.{message_limit}
 use Rattle.cut.specs.Blocks.{block_count}
 use Rattle.header.specs.Header.{InRange, header_bytes}
@@ -22,7 +22,6 @@ use Rattle.exchange.specs.Request.{requesting, asked_number, open_of, reply_of, 
 use Rattle.exchange.specs.Rules.{Fours, Somewhere, LowestAt}
 use Rattle.exchange.specs.declared.Sending.TheVariants as sending
 use Rattle.exchange.specs.declared.Exchange.{Exchange}
-use Rattle.exchange.specs.declared.Asked.TheVariants.{Taken}
 use Rattle.exchange.specs.declared.Primary.{Primary}
 use Rattle.exchange.specs.declared.Requested.{Requested}
 use Rattle.exchange.specs.declared.Outgoing.TheVariants as outgoing
@@ -154,7 +153,7 @@ FillsBy (freeing_incoming p) room after = after ≡ room
 
 abbrev pub AcceptedFills : Type 0
 AcceptedFills =
-    (c : Terms) (x : Exchange) (r : Request) (room : List ℕ) (p : ℕ) → (answer_of c x r room).answer.asked ≡ Taken p
+    (c : Terms) (x : Exchange) (r : Request) (room : List ℕ) (p : ℕ) → (answer_of c x r room).answer.asked ≡ Ok p
     → FillsBy r room (answer_of c x r room).room
 
 -- the room is as long as it was, after any request
@@ -201,7 +200,7 @@ pub record Opened (c : Terms) (x : Exchange) (q : Primary) (d room : List ℕ) (
 
 abbrev pub AcceptedOpens : Type 0
 AcceptedOpens =
-    (c : Terms) (x : Exchange) (q : Primary) (d room : List ℕ) → Fours x → (p : ℕ) → (answer_of c x (primary q d) room).answer.asked ≡ Taken p
+    (c : Terms) (x : Exchange) (q : Primary) (d room : List ℕ) → Fours x → (p : ℕ) → (answer_of c x (primary q d) room).answer.asked ≡ Ok p
     → Opened c x q d room p (answer_of c x (primary q d) room).answer.exchange (answer_of c x (primary q d) room).room
 
 -- ---- a reply that is accepted
@@ -238,7 +237,7 @@ pub record Replied (x : Exchange) (p f : ℕ) (d room : List ℕ) (k : ℕ) (y :
 
 abbrev pub AcceptedReplies : Type 0
 AcceptedReplies =
-    (c : Terms) (x : Exchange) (p f : ℕ) (d room : List ℕ) (k : ℕ) → (answer_of c x (reply p f d) room).answer.asked ≡ Taken k
+    (c : Terms) (x : Exchange) (p f : ℕ) (d room : List ℕ) (k : ℕ) → (answer_of c x (reply p f d) room).answer.asked ≡ Ok k
     → Replied x p f d room k (answer_of c x (reply p f d) room).answer.exchange (answer_of c x (reply p f d) room).room
 
 -- ---- a release that is accepted
@@ -266,10 +265,10 @@ pub record IncomingReleased (x : Exchange) (p k : ℕ) (y : Exchange) : Type 0 w
 
 pub record AcceptedReleases : Type 0 where
   pub own :
-      (c : Terms) (x : Exchange) (p : ℕ) (room : List ℕ) (k : ℕ) → (answer_of c x (freeing_own p) room).answer.asked ≡ Taken k
+      (c : Terms) (x : Exchange) (p : ℕ) (room : List ℕ) (k : ℕ) → (answer_of c x (freeing_own p) room).answer.asked ≡ Ok k
       → OwnReleased x p k (answer_of c x (freeing_own p) room).answer.exchange
   pub incoming :
-      (c : Terms) (x : Exchange) (p : ℕ) (room : List ℕ) (k : ℕ) → (answer_of c x (freeing_incoming p) room).answer.asked ≡ Taken k
+      (c : Terms) (x : Exchange) (p : ℕ) (room : List ℕ) (k : ℕ) → (answer_of c x (freeing_incoming p) room).answer.asked ≡ Ok k
       → IncomingReleased x p k (answer_of c x (freeing_incoming p) room).answer.exchange
 
 -- ---- by the name of each request

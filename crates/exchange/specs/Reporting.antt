@@ -1,14 +1,12 @@
 -- Which reports wait, which one is on its way and how many were dropped (02, request 2), over every list of calls from a fresh start. An
 -- onlooker keeps them too: by the notes of blocks, by the verdicts that a user reads, by what is accepted and by the ends of messages. Each
 -- proof is in `proofs/Reporting.antt`.
-use Rattle.std.specs.Prelude.{ℕ, ◌+◌, ◌≤◌, ◌<◌, ◌≡◌, Bool, true, false, cond, ◌&&◌, ◌||◌, List, [], ◌∷◌, ◌++◌, ◌≢◌, eqb, ltb, length}
+use Rattle.std.specs.Prelude.{ℕ, ◌+◌, ◌≤◌, ◌<◌, ◌≡◌, Bool, true, false, cond, ◌&&◌, ◌||◌, List, [], ◌∷◌, ◌++◌, ◌≢◌, eqb, ltb, length, Option, Some, None, Ok, Err}
 use Rattle.header.specs.Header.{header_of, header_bytes}
 use Rattle.settings.specs.declared.terms.Terms.{Terms}
 use Rattle.place.specs.declared.Verdict.{Verdict}
 use Rattle.place.specs.declared.Verdict.TheVariants.{Sent, Answered, Declined, Other, Broken, NoReply, SendFailed}
 use Rattle.table.specs.Own.{reply_for}
-use Rattle.table.specs.declared.Found.{Found}
-use Rattle.table.specs.declared.Found.TheVariants.{At, Nowhere}
 use Rattle.reports.specs.Reports.{report, no_report, waiting_in}
 use Rattle.reports.specs.Theorems.{Sound}
 use Rattle.reports.specs.declared.Report.{Report}
@@ -28,8 +26,7 @@ use Rattle.exchange.specs.declared.OwnReading.{OwnReading}
 use Rattle.exchange.specs.declared.Sending.{Sending}
 use Rattle.exchange.specs.declared.Sending.TheVariants as sending
 use Rattle.exchange.specs.declared.Exchange.{Exchange}
-use Rattle.exchange.specs.declared.Asked.{Asked}
-use Rattle.exchange.specs.declared.Asked.TheVariants.{Taken, Refused}
+use Rattle.exchange.specs.Asked.{Asked}
 
 -- ---- what the onlooker keeps
 
@@ -167,9 +164,9 @@ by_places c before after s = by_place c before after 3 (by_place c before after 
 
 -- the block is of the reply to the primary being sent: "the held block is withdrawn and counts as sent" (02, request 1), if it is kept or
 -- breaks the reply
-abbrev pub of_sent : Found → Sending → Bool
-of_sent (At p) z = sent_from z p
-of_sent Nowhere z = false
+abbrev pub of_sent : Option ℕ → Sending → Bool
+of_sent (Some p) z = sent_from z p
+of_sent None z = false
 
 abbrev pub proves : Exchange → List ℕ → ℕ → Bool
 proves x h n = (eqb n 21 || (eqb n 26 || eqb n 27)) && of_sent (reply_for x.own (header_of h)) x.sending
@@ -195,8 +192,8 @@ reporter_taken c after (freeing_own k) p s = s
 reporter_taken c after (freeing_incoming k) p s = s
 
 abbrev pub reporter_asked : Terms → (ℕ → OwnReading) → Request → Asked → Reporter → Reporter
-reporter_asked c after r (Taken p) s = reporter_taken c after r p s
-reporter_asked c after r (Refused n) s = s
+reporter_asked c after r (Ok p) s = reporter_taken c after r p s
+reporter_asked c after r (Err n) s = s
 
 -- ---- any call
 

@@ -1,5 +1,5 @@
 -- Requests: open a primary, reply, release (01, "Messages"; "Refusal numbers and notes").
-use Rattle.std.specs.Prelude.{ℕ, ◌+◌, ◌*◌, ◌%◌, Bool, true, false, cond, not, ◌&&◌, ◌||◌, List, eqb, ltb, length}
+use Rattle.std.specs.Prelude.{ℕ, ◌+◌, ◌*◌, ◌%◌, Bool, true, false, cond, not, ◌&&◌, ◌||◌, List, eqb, ltb, length, Option, Some, None, Ok, Err}
 use Rattle.wire.specs.Message.{message_limit}
 use Rattle.cut.specs.Blocks.{block_count}
 use Rattle.header.specs.Header.{header_bytes}
@@ -12,18 +12,15 @@ use Rattle.place.specs.Incoming.{primary_of, incoming_is_complete, incoming_is_r
 use Rattle.place.specs.declared.Incoming.{Incoming}
 use Rattle.table.specs.Own.{free_own, own_put}
 use Rattle.table.specs.Number.{next_number}
-use Rattle.table.specs.declared.Found.{Found}
-use Rattle.table.specs.declared.Found.TheVariants.{At, Nowhere}
 use Rattle.exchange.specs.Exchange.{own_place, incoming_place, put_own, put_incoming, with_sending}
 use Rattle.exchange.specs.declared.Sending.{Sending}
 use Rattle.exchange.specs.declared.Sending.TheVariants as sending
 use Rattle.exchange.specs.declared.Exchange.{Exchange}
 use Rattle.exchange.specs.declared.Refusal.{Refusal}
 use Rattle.exchange.specs.declared.Refusal.TheVariants as refusal
-use Rattle.exchange.specs.declared.Asked.{Asked}
-use Rattle.exchange.specs.declared.Asked.TheVariants.{Taken, Refused}
 use Rattle.exchange.specs.declared.Primary.{Primary}
 use Rattle.exchange.specs.declared.Requested.{Requested}
+use Rattle.exchange.specs.Asked.{Asked}
 
 -- 01's table
 abbrev pub refusal_number : Refusal → ℕ
@@ -37,8 +34,8 @@ refusal_number refusal.Replied = 11
 
 -- the number of an answer; 0 where it is no refusal
 abbrev pub asked_number : Asked → ℕ
-asked_number (Taken p) = 0
-asked_number (Refused r) = refusal_number r
+asked_number (Ok p) = 0
+asked_number (Err r) = refusal_number r
 
 -- What a request leaves: what it answers, and every byte of the room.
 pub record Requesting : Type 0 where
@@ -50,7 +47,7 @@ requesting q room = record { answer = q; room = room }
 
 -- a refused request changes nothing
 unfoldable pub refused_by : Exchange → Refusal → Requested
-refused_by x r = record { exchange = x; asked = Refused r }
+refused_by x r = record { exchange = x; asked = Err r }
 
 unfoldable pub refused : Exchange → Refusal → List ℕ → Requesting
 refused x r room = requesting (refused_by x r) room
@@ -114,10 +111,10 @@ unfoldable pub claimed_at : Terms → Exchange → ℕ → Primary → ℕ → E
 claimed_at c x p q n = claimed_as c x p q n (next_number x.own x.numbers.last x.numbers.latest)
 
 -- 8: "all 4 own places in use"
-abbrev pub open_by : Found → Terms → Exchange → Primary → List ℕ → List ℕ → Requesting
-open_by (At p) c x q d room =
-    requesting (record { exchange = claimed_at c x p q (length d); asked = Taken p }) (kept_in room message.Send 0 d)
-open_by Nowhere c x q d room = refused x refusal.NoPlace room
+abbrev pub open_by : Option ℕ → Terms → Exchange → Primary → List ℕ → List ℕ → Requesting
+open_by (Some p) c x q d room =
+    requesting (record { exchange = claimed_at c x p q (length d); asked = Ok p }) (kept_in room message.Send 0 d)
+open_by None c x q d room = refused x refusal.NoPlace room
 
 unfoldable pub open_free : Terms → Exchange → Primary → List ℕ → List ℕ → Requesting
 open_free c x q d room = open_by (free_own x.own) c x q d room
@@ -137,7 +134,7 @@ reply_accepted x p f d room =
     requesting
     (record {
       exchange = with_sending (put_incoming x p (incoming_answered (incoming_place x p))) (sending.Reply p f (length d));
-      asked = Taken p;
+      asked = Ok p;
     })
     (kept_in room message.Send 0 d)
 
@@ -163,13 +160,13 @@ reply_of x p f d room =
 unfoldable pub release_own : Exchange → ℕ → Requested
 release_own x p =
     cond (own_has_verdict (own_place x p))
-    (record { exchange = put_own x p (own_released (own_place x p)); asked = Taken p })
+    (record { exchange = put_own x p (own_released (own_place x p)); asked = Ok p })
     (refused_by x refusal.Place)
 
 unfoldable pub release_incoming : Exchange → ℕ → Requested
 release_incoming x p =
     cond (not_ready (incoming_place x p)) (refused_by x refusal.Place)
-    (record { exchange = put_incoming x p (incoming_released (incoming_place x p)); asked = Taken p })
+    (record { exchange = put_incoming x p (incoming_released (incoming_place x p)); asked = Ok p })
 
 -- ---- any request
 

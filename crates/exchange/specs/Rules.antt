@@ -1,6 +1,6 @@
 -- The seven rules of 01 ("A block that goes up is judged in this order"), each in 01's words over the places, and what is proved of
 -- judging by them. b is what the ten header bytes h say, d the block's data. Each proof is in `proofs/`.
-use Rattle.std.specs.Prelude.{ℕ, ◌+◌, ◌%◌, ◌≤◌, ◌<◌, ◌≡◌, Bool, true, false, cond, List, ◌∷◌, ◌↔◌, ◌⊎◌, ◌≢◌, length}
+use Rattle.std.specs.Prelude.{ℕ, ◌+◌, ◌%◌, ◌≤◌, ◌<◌, ◌≡◌, Bool, true, false, cond, List, ◌∷◌, ◌↔◌, ◌⊎◌, ◌≢◌, length, Option, Some, None}
 use Rattle.wire.specs.Message.{message_limit}
 use Rattle.header.specs.Header.{header_of}
 use Rattle.header.specs.declared.header.Header.{Header}
@@ -24,8 +24,6 @@ use Rattle.table.specs.Number.{number_of, next_number}
 use Rattle.table.specs.Own.{own_at, own_put, reply_for}
 use Rattle.table.specs.Incoming.{incoming_at, incoming_put, message_for}
 use Rattle.table.specs.Theorems.{Alike}
-use Rattle.table.specs.declared.Found.{Found}
-use Rattle.table.specs.declared.Found.TheVariants.{At, Nowhere}
 use Rattle.reports.specs.Reports.{report, waiting_in, added}
 use Rattle.reports.specs.Theorems.{Sound}
 use Rattle.reports.specs.declared.Report.{Report}
@@ -105,13 +103,13 @@ Expected x b = ReplyHere x b ⊎ MessageHere x b ⊎ Begins b
 -- ---- 5
 
 -- what is kept of the message that the block is of: of a reply, or of a message that is open; nothing of one that begins
-abbrev pub message_bytes : Found → List Incoming → ℕ
-message_bytes (At p) is = incoming_length (incoming_at is p)
-message_bytes Nowhere is = 0
+abbrev pub message_bytes : Option ℕ → List Incoming → ℕ
+message_bytes (Some p) is = incoming_length (incoming_at is p)
+message_bytes None is = 0
 
-abbrev pub reply_bytes : Found → List Own → List Incoming → Header → ℕ
-reply_bytes (At p) os is b = (own_kept (own_at os p)).length
-reply_bytes Nowhere os is b = message_bytes (message_for is b) is
+abbrev pub reply_bytes : Option ℕ → List Own → List Incoming → Header → ℕ
+reply_bytes (Some p) os is b = (own_kept (own_at os p)).length
+reply_bytes None os is b = message_bytes (message_for is b) is
 
 abbrev pub bytes_before : Exchange → Header → ℕ
 bytes_before x b = reply_bytes (reply_for x.own b) x.own x.incoming b

@@ -2,7 +2,7 @@
 -- is called, what is answered, and to which message each block belongs. The place, and what this onlooker has seen, are as events at a
 -- place leave them: so every theorem on a place (place/specs/OwnTheorems.antt, place/specs/IncomingTheorems.antt) holds of each place
 -- inside, with this onlooker. Each proof is in `proofs/Watching.antt`.
-use Rattle.std.specs.Prelude.{ℕ, ◌+◌, ◌<◌, ◌≡◌, Bool, false, cond, List, [], ◌∷◌, eqb, length}
+use Rattle.std.specs.Prelude.{ℕ, ◌+◌, ◌<◌, ◌≡◌, Bool, false, cond, List, [], ◌∷◌, eqb, length, Option, Some, None, Ok, Err}
 use Rattle.header.specs.Header.{header_of, header_bytes}
 use Rattle.header.specs.declared.header.Header.{Header}
 use Rattle.settings.specs.declared.terms.Terms.{Terms}
@@ -13,8 +13,6 @@ use Rattle.place.specs.IncomingTheorems.{Reached as IncomingReached}
 use Rattle.table.specs.Own.{reply_for}
 use Rattle.table.specs.Incoming.{message_for, open_alike, free_incoming}
 use Rattle.table.specs.Number.{next_number}
-use Rattle.table.specs.declared.Found.{Found}
-use Rattle.table.specs.declared.Found.TheVariants.{At, Nowhere}
 use Rattle.exchange.specs.Exchange.{own_place, incoming_place, sent_from}
 use Rattle.exchange.specs.Judge.{judge_of}
 use Rattle.exchange.specs.Request.{primary_header, Request, primary, reply, freeing_own, freeing_incoming, answer_of}
@@ -24,9 +22,8 @@ use Rattle.exchange.specs.declared.Note.TheVariants.{Kept, Misrouted, Duplicate,
 use Rattle.exchange.specs.declared.Exchange.{Exchange}
 use Rattle.exchange.specs.declared.Sending.{Sending}
 use Rattle.exchange.specs.declared.Sending.TheVariants as sending
-use Rattle.exchange.specs.declared.Asked.{Asked}
-use Rattle.exchange.specs.declared.Asked.TheVariants.{Taken, Refused}
 use Rattle.exchange.specs.declared.Primary.{Primary}
+use Rattle.exchange.specs.Asked.{Asked}
 
 -- ---- what a call tells of place p
 
@@ -42,14 +39,14 @@ told_by TooLong = own.spoilt
 told_by Empty = own.spoilt
 
 -- it is the one that was found
-abbrev pub found_at : Found → ℕ → Bool
-found_at (At q) p = eqb q p
-found_at Nowhere p = false
+abbrev pub found_at : Option ℕ → ℕ → Bool
+found_at (Some q) p = eqb q p
+found_at None p = false
 
 -- a request was accepted there
 abbrev pub taken_at : Asked → ℕ → Bool
-taken_at (Taken q) p = eqb q p
-taken_at (Refused r) p = false
+taken_at (Ok q) p = eqb q p
+taken_at (Err r) p = false
 
 -- the message being sent is the reply of incoming place p; whether it is the primary of an own place: `sent_from` (specs/Exchange.antt)
 abbrev pub reply_from : Sending → ℕ → Bool
@@ -87,16 +84,16 @@ own_sees c p x room s (request r) = cond (taken_at (answer_of c x r room).answer
 -- ---- the onlooker of incoming place p
 
 -- the place that a new primary takes: "throws that one out and takes its place .. Otherwise it takes the lowest free incoming place"
-abbrev pub taken_by : Found → Found → Found
-taken_by (At q) free = At q
-taken_by Nowhere free = free
+abbrev pub taken_by : Option ℕ → Option ℕ → Option ℕ
+taken_by (Some q) free = Some q
+taken_by None free = free
 
 -- a block of a reply is for no incoming place; one that continues an open message is for that one's place; any other, if it is kept,
 -- begins a message in the place that it takes
-abbrev pub sees_block : Found → Found → Found → ℕ → own.Answer → incoming.Seen → Header → ℕ → incoming.Seen
-sees_block (At q) message new p a s b size = s
-sees_block Nowhere (At q) new p a s b size = cond (eqb q p) (incoming.sees_next a s b size) s
-sees_block Nowhere Nowhere new p a s b size = cond (found_at new p) (incoming.sees_first a s b size) s
+abbrev pub sees_block : Option ℕ → Option ℕ → Option ℕ → ℕ → own.Answer → incoming.Seen → Header → ℕ → incoming.Seen
+sees_block (Some q) message new p a s b size = s
+sees_block None (Some q) new p a s b size = cond (eqb q p) (incoming.sees_next a s b size) s
+sees_block None None new p a s b size = cond (found_at new p) (incoming.sees_first a s b size) s
 
 -- no message is there since the release
 abbrev pub freed_seen : incoming.Seen → incoming.Seen

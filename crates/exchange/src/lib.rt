@@ -136,11 +136,7 @@ pub struct Requested {
 }
 
 // What a request comes to: taken, for this place, or refused.
-#[derive(Clone, Copy)]
-pub enum Asked {
-    Taken(usize),
-    Refused(Refusal),
-}
+pub type Asked = Result<usize, Refusal>;
 
 // Refusals 5 to 11 of 01's table.
 #[derive(Clone, Copy)]

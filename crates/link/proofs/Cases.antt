@@ -1,4 +1,5 @@
 -- What holds in each case of a call holds of the call. Assumes nothing.
+use Rattle.std.specs.Prelude.{Result, Ok, Err}
 use Prim.Native.Nat.{ℕ}
 use mathlib.Core.Path.{◌≡◌, refl, sym, ap, subst}
 use mathlib.Core.Bool.{Bool, true, false, cond, false≢true}
@@ -14,8 +15,6 @@ use Rattle.line.specs.declared.step.Out.TheVariants as out
 use Rattle.exchange.specs.Send.{put_out_of, sent_of}
 use Rattle.exchange.specs.Request.{Requesting, requesting, Request, primary, reply, freeing_own, freeing_incoming, answer_of, lends}
 use Rattle.exchange.specs.declared.Exchange.{Exchange}
-use Rattle.exchange.specs.declared.Asked.{Asked}
-use Rattle.exchange.specs.declared.Asked.TheVariants as asked
 use Rattle.exchange.specs.declared.Refusal.{Refusal as RequestRefusal}
 use Rattle.exchange.proofs.Accepting.{refused_number, refused_changes_nothing}
 use Rattle.link.specs.State.{refused_as, link_in_range, output_short, room_fits, gate_of}
@@ -26,29 +25,28 @@ use Rattle.link.specs.declared.Refusal.TheVariants as refusal
 use Rattle.link.specs.declared.Midway.{Midway}
 use Rattle.link.specs.declared.Note.{Note}
 use Rattle.link.specs.declared.Answer.{Answer}
-use Rattle.link.specs.declared.Gate.{Gate}
-use Rattle.link.specs.declared.Gate.TheVariants as gate
 use Rattle.link.specs.declared.Link.{Link}
+use Rattle.exchange.specs.Asked.{Asked}
 
 -- ---- refusals 1 to 3
 
-through_gate : (g : Gate) (P : Left → Type 0) (u : Link) (room o : List ℕ) (l : Left)
-    → ((r : Refusal) → g ≡ gate.Shut r → P (left (refused_as u r) room o)) → (g ≡ gate.Open → P l) → P (through g u room o l)
-through_gate gate.Open P u room o l shut open' = open' refl
-through_gate (gate.Shut r) P u room o l shut open' = shut r refl
+through_gate : (g : Result Unit Refusal) (P : Left → Type 0) (u : Link) (room o : List ℕ) (l : Left)
+    → ((r : Refusal) → g ≡ Err r → P (left (refused_as u r) room o)) → (g ≡ (Ok tt) → P l) → P (through g u room o l)
+through_gate (Ok tt) P u room o l shut open' = open' refl
+through_gate (Err r) P u room o l shut open' = shut r refl
 
 -- a call is refused and leaves all as it was, or goes through
 pub by_gate : (P : Left → Type 0) (u : Link) (room o : List ℕ) (l : Left)
-    → ((r : Refusal) → gate_of u (length room) (length o) ≡ gate.Shut r → P (left (refused_as u r) room o))
-    → (gate_of u (length room) (length o) ≡ gate.Open → P l) → P (gated u room o l)
+    → ((r : Refusal) → gate_of u (length room) (length o) ≡ Err r → P (left (refused_as u r) room o))
+    → (gate_of u (length room) (length o) ≡ (Ok tt) → P l) → P (gated u room o l)
 by_gate P u room o l shut open' = through_gate (gate_of u (length room) (length o)) P u room o l shut open'
 
 -- one that goes through is lent 36,864 bytes
-abbrev Lent : ℕ → Gate → Type 0
-Lent n gate.Open = n ≡ 36864
-Lent n (gate.Shut r) = Unit {0}
+abbrev Lent : ℕ → Result Unit Refusal → Type 0
+Lent n (Ok tt) = n ≡ 36864
+Lent n (Err r) = Unit {0}
 
-pub open_lent : (u : Link) (n o : ℕ) → gate_of u n o ≡ gate.Open → n ≡ 36864
+pub open_lent : (u : Link) (n o : ℕ) → gate_of u n o ≡ (Ok tt) → n ≡ 36864
 unfolding gate_of room_fits
 open_lent u n o e =
     subst (Lent n) e
@@ -89,18 +87,18 @@ by_sent P more x t on last = either more (λ z. P z (cond z (untold x t) (change
 -- what the transactions answer
 pub by_asked :
     (u : Link) (x : Exchange) (room o : List ℕ) (P : Asked → Left → Type 0)
-    → ((p : ℕ) → P (asked.Taken p) (requested_by (asked.Taken p) u x room o))
-    → ((r : RequestRefusal) → P (asked.Refused r) (left (refused_as u (refusal.Request r)) room o))
+    → ((p : ℕ) → P (Ok p) (requested_by (Ok p) u x room o))
+    → ((r : RequestRefusal) → P (Err r) (left (refused_as u (refusal.Request r)) room o))
     → (k : Asked) → P k (requested_by k u x room o)
-by_asked u x room o P take refuse (asked.Taken p) = take p
-by_asked u x room o P take refuse (asked.Refused r) = refuse r
+by_asked u x room o P take refuse (Ok p) = take p
+by_asked u x room o P take refuse (Err r) = refuse r
 
 pub by_freed :
     (u : Link) (x : Exchange) (P : Asked → Answer → Type 0)
-    → ((p : ℕ) → P (asked.Taken p) (frees_by (asked.Taken p) u x)) → ((r : RequestRefusal) → P (asked.Refused r) (refused_as u (refusal.Request r)))
+    → ((p : ℕ) → P (Ok p) (frees_by (Ok p) u x)) → ((r : RequestRefusal) → P (Err r) (refused_as u (refusal.Request r)))
     → (k : Asked) → P k (frees_by k u x)
-by_freed u x P take refuse (asked.Taken p) = take p
-by_freed u x P take refuse (asked.Refused r) = refuse r
+by_freed u x P take refuse (Ok p) = take p
+by_freed u x P take refuse (Err r) = refuse r
 
 -- of the room a release knows nothing
 pub unlent : (u : Link) (r : Request) (room : List ℕ) → lends r ≡ false
@@ -123,21 +121,21 @@ behind_by true u r room o = requested_as u (answering u r room) o
 behind_by false u r room o = left (frees u (answering u r []).answer) room o
 
 module _ (u : Link) (r : Request) (room o : List ℕ) (P : Left → Type 0)
-    (refuse : (n : RequestRefusal) → (answering u r room).answer.asked ≡ asked.Refused n → P (left (refused_as u (refusal.Request n)) room o))
-    (take : (p : ℕ) → (answering u r room).answer.asked ≡ asked.Taken p → lends r ≡ true
-    → P (requested_by (asked.Taken p) u (answering u r room).answer.exchange (answering u r room).room o))
-    (free : (p : ℕ) → (answering u r room).answer.asked ≡ asked.Taken p → lends r ≡ false
-    → P (left (frees_by (asked.Taken p) u (answering u r room).answer.exchange) room o)) where
+    (refuse : (n : RequestRefusal) → (answering u r room).answer.asked ≡ Err n → P (left (refused_as u (refusal.Request n)) room o))
+    (take : (p : ℕ) → (answering u r room).answer.asked ≡ Ok p → lends r ≡ true
+    → P (requested_by (Ok p) u (answering u r room).answer.exchange (answering u r room).room o))
+    (free : (p : ℕ) → (answering u r room).answer.asked ≡ Ok p → lends r ≡ false
+    → P (left (frees_by (Ok p) u (answering u r room).answer.exchange) room o)) where
   lent_answer : lends r ≡ true → (k : Asked) → (answering u r room).answer.asked ≡ k
       → P (requested_by k u (answering u r room).answer.exchange (answering u r room).room o)
-  lent_answer l (asked.Taken p) e = take p e l
-  lent_answer l (asked.Refused n) e =
+  lent_answer l (Ok p) e = take p e l
+  lent_answer l (Err n) e =
       subst (λ (z : List ℕ). P (left (refused_as u (refusal.Request n)) z o))
       (sym (refused_changes_nothing u.settings.terms u.exchange r room (refused_number (answering u r room).answer.asked n e)).1) (refuse n e)
 
   free_answer : lends r ≡ false → (k : Asked) → (answering u r room).answer.asked ≡ k → P (left (frees_by k u (answering u r room).answer.exchange) room o)
-  free_answer l (asked.Taken p) e = free p e l
-  free_answer l (asked.Refused n) e = refuse n e
+  free_answer l (Ok p) e = free p e l
+  free_answer l (Err n) e = refuse n e
 
   -- past 1, 2 and 3 a request is refused by the transactions, or taken: with the memory that it is lent, or without
   pub by_answer : (t : Bool) → lends r ≡ t → P (behind_by t u r room o)

@@ -1,12 +1,10 @@
 -- The calls of the unit: refusals 1 to 3, then what the call does (01, "Refusal numbers and notes").
-use Rattle.std.specs.Prelude.{ℕ, Bool, true, false, cond, List, [], length}
+use Rattle.std.specs.Prelude.{ℕ, Bool, true, false, cond, List, [], length, Result, Ok, Err}
 use Rattle.line.specs.declared.step.Out.TheVariants as out
 use Rattle.line.specs.declared.step.Told.TheVariants as told
 use Rattle.exchange.specs.Flags.{no_flags}
 use Rattle.exchange.specs.Request.{Requesting, Request, primary, reply, freeing_own, freeing_incoming, answer_of, lends}
 use Rattle.exchange.specs.declared.Exchange.{Exchange}
-use Rattle.exchange.specs.declared.Asked.{Asked}
-use Rattle.exchange.specs.declared.Asked.TheVariants as asked
 use Rattle.exchange.specs.declared.Primary.{Primary}
 use Rattle.exchange.specs.declared.Requested.{Requested}
 use Rattle.link.specs.State.{with_exchange, answer_as, refused_as, link_in_range, gate_of}
@@ -15,14 +13,14 @@ use Rattle.link.specs.declared.Refusal.TheVariants as refusal
 use Rattle.link.specs.declared.Outcome.TheVariants as outcome
 use Rattle.link.specs.declared.Note.TheVariants as note
 use Rattle.link.specs.declared.Answer.{Answer}
-use Rattle.link.specs.declared.Gate.{Gate}
-use Rattle.link.specs.declared.Gate.TheVariants as gate
 use Rattle.link.specs.declared.Link.{Link}
+use Rattle.exchange.specs.Asked.{Asked}
+use Rattle.link.specs.declared.Refusal.{Refusal}
 
 -- a call goes through, or is refused and leaves all as it was
-abbrev pub through : Gate → Link → List ℕ → List ℕ → Left → Left
-through gate.Open u room o l = l
-through (gate.Shut r) u room o l = left (refused_as u r) room o
+abbrev pub through : Result Unit Refusal → Link → List ℕ → List ℕ → Left → Left
+through (Ok tt) u room o l = l
+through (Err r) u room o l = left (refused_as u r) room o
 
 abbrev pub gated : Link → List ℕ → List ℕ → Left → Left
 gated u room o l = through (gate_of u (length room) (length o)) u room o l
@@ -42,8 +40,8 @@ drained_call u room o = gated u room o (stepped false u (drained_step u) room o)
 
 -- a message that is accepted is to be sent: the same course, the line having made no step
 abbrev pub requested_by : Asked → Link → Exchange → List ℕ → List ℕ → Left
-requested_by (asked.Taken p) u x room o = course u out.Nothing told.Nothing (untold x note.Nothing) (outcome.Taken p) room o
-requested_by (asked.Refused r) u x room o = left (refused_as u (refusal.Request r)) room o
+requested_by (Ok p) u x room o = course u out.Nothing told.Nothing (untold x note.Nothing) (outcome.Taken p) room o
+requested_by (Err r) u x room o = left (refused_as u (refusal.Request r)) room o
 
 abbrev pub requested_as : Link → Requesting → List ℕ → Left
 requested_as u a o = requested_by a.answer.asked u a.answer.exchange a.room o
@@ -53,8 +51,8 @@ lent_call u r room o = gated u room o (requested_as u (answer_of u.settings.term
 
 -- a release is lent no memory: the line has no part in it
 abbrev pub frees_by : Asked → Link → Exchange → Answer
-frees_by (asked.Taken p) u x = answer_as (with_exchange u x) 0 (outcome.Taken p) note.Nothing no_flags
-frees_by (asked.Refused r) u x = refused_as u (refusal.Request r)
+frees_by (Ok p) u x = answer_as (with_exchange u x) 0 (outcome.Taken p) note.Nothing no_flags
+frees_by (Err r) u x = refused_as u (refusal.Request r)
 
 abbrev pub frees : Link → Requested → Answer
 frees u q = frees_by q.asked u q.exchange

@@ -1,7 +1,7 @@
 -- What is proved of the unit's inside, over every list of its calls from a start (`specs/History.antt`): the settings stay, the line goes
 -- through calls of a line and the transactions through calls of the transactions, the two agree on what is being sent, and no field
 -- leaves its range. Each proof is in `proofs/`.
-use Rattle.std.specs.Prelude.{ℕ, ◌+◌, ◌≤◌, ◌<◌, ◌≡◌, Bool, true, false, List, [], ◌∷◌, ◌≢◌, ◌⊎◌, length}
+use Rattle.std.specs.Prelude.{ℕ, ◌+◌, ◌≤◌, ◌<◌, ◌≡◌, Bool, true, false, List, [], ◌∷◌, ◌≢◌, ◌⊎◌, length, Some}
 use Rattle.header.specs.declared.header.Header.{Header}
 use Rattle.wire.specs.Message.{message_limit}
 use Rattle.cut.specs.Blocks.{most_blocks, block_count, part_start, part_length, header_at, cut_of}
@@ -31,7 +31,6 @@ use Rattle.link.specs.Run.{Left, block_bytes}
 use Rattle.link.specs.History.{Call, called, Room, kept, other, lent_room, Made, came_to, line_calls, exchange_calls, Track, line_track, exchange_track, limits_in, terms_in, next, track, at_start}
 use Rattle.link.specs.declared.Setup.{Setup}
 use Rattle.link.specs.declared.Settings.{Settings}
-use Rattle.link.specs.declared.Ranged.TheVariants as ranged
 use Rattle.link.specs.declared.Refusal.TheVariants as refusal
 use Rattle.link.specs.declared.Outcome.TheVariants as outcome
 use Rattle.link.specs.declared.Carried.{Carried}
@@ -44,7 +43,7 @@ use Rattle.link.specs.declared.Link.{Link}
 pub record Reached (t : Track) : Type 0 where
   pub setup : Setup
   pub settings : Settings
-  pub started : ranged_of setup ≡ ranged.Settings settings
+  pub started : ranged_of setup ≡ Some settings
   pub room : List ℕ
   pub whole : length room ≡ 36864
   pub calls : List Made
@@ -57,7 +56,7 @@ Always P = (t : Track) → Reached t → P t
 -- That is all that calls leave: the unit of a start that is not refused is reached, and so is what any call leaves of one that is.
 pub record CallsReach : Type 0 where
   pub start :
-      (s : Setup) (z : Settings) → ranged_of s ≡ ranged.Settings z → (room : List ℕ) → length room ≡ 36864
+      (s : Setup) (z : Settings) → ranged_of s ≡ Some z → (room : List ℕ) → length room ≡ 36864
       → Reached (at_start z s.last room) × ((at_start z s.last room).link ≡ (start_of s).link)
   pub call :
       (t : Track) → Reached t → (m : Made)

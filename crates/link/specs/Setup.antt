@@ -1,19 +1,14 @@
 -- The settings: as they are handed to a start, and as the unit goes by them (01, "Settings and time").
-use Rattle.std.specs.Prelude.{Bool, false, cond, not, ◌&&◌, ltb}
+use Rattle.std.specs.Prelude.{Bool, false, cond, not, ◌&&◌, ltb, Option, Some, None}
 use Rattle.settings.specs.Panel.{tenths_ticks, fifths_ticks, seconds_ticks}
 use Rattle.settings.specs.Limits.{taken_of, limits_in_range}
 use Rattle.settings.specs.Terms.{agreed_of, terms_in_range}
 use Rattle.settings.specs.declared.limits.Panel.{Panel}
 use Rattle.settings.specs.declared.limits.Limits.{Limits}
-use Rattle.settings.specs.declared.limits.Taken.{Taken}
-use Rattle.settings.specs.declared.limits.Taken.TheVariants as taken
 use Rattle.settings.specs.declared.terms.MessagePanel.{MessagePanel}
-use Rattle.settings.specs.declared.terms.Agreed.{Agreed}
-use Rattle.settings.specs.declared.terms.Agreed.TheVariants as agreed
 use Rattle.link.specs.declared.Setup.{Setup}
 use Rattle.link.specs.declared.Settings.{Settings}
-use Rattle.link.specs.declared.Ranged.{Ranged}
-use Rattle.link.specs.declared.Ranged.TheVariants.{Settings as Kept, OutOfRange}
+use Rattle.settings.specs.declared.terms.Terms.{Terms}
 
 -- the line's settings; "host = slave, equipment = master"
 abbrev pub panel_of : Setup → Panel
@@ -23,17 +18,17 @@ panel_of s = record { t1 = s.t1; t2 = s.t2; rty = s.rty; master = not s.host }
 abbrev pub messages_of : Setup → MessagePanel
 messages_of s = record { t3 = s.t3; t4 = s.t4; device = s.device; duplicates = s.duplicates; host = s.host }
 
-abbrev pub agreed_by : Agreed → Limits → Ranged
-agreed_by (agreed.Terms terms) limits = Kept (record { limits = limits; terms = terms })
-agreed_by agreed.OutOfRange limits = OutOfRange
+abbrev pub agreed_by : Option Terms → Limits → Option Settings
+agreed_by (Some terms) limits = Some (record { limits = limits; terms = terms })
+agreed_by None limits = None
 
-abbrev pub taken_by : Taken → Setup → Ranged
-taken_by (taken.Limits limits) s = agreed_by (agreed_of (messages_of s)) limits
-taken_by taken.OutOfRange s = OutOfRange
+abbrev pub taken_by : Option Limits → Setup → Option Settings
+taken_by (Some limits) s = agreed_by (agreed_of (messages_of s)) limits
+taken_by None s = None
 
 -- refusal 4: "setting out of range"
-unfoldable pub ranged_of : Setup → Ranged
-ranged_of s = cond (ltb 31 s.rty) OutOfRange (taken_by (taken_of (panel_of s)) s)
+unfoldable pub ranged_of : Setup → Option Settings
+ranged_of s = cond (ltb 31 s.rty) None (taken_by (taken_of (panel_of s)) s)
 
 -- settings of no unit: none of T1 to T4 is in its range
 abbrev pub no_settings : Settings

@@ -1,5 +1,5 @@
 -- The unit's state: a fresh one, its ranges (docs/STATE.md), what changes a part of it, and what a refused call answers.
-use Rattle.std.specs.Prelude.{ℕ, Bool, cond, ◌&&◌, List, [], eqb, ltb, replicate}
+use Rattle.std.specs.Prelude.{ℕ, Bool, cond, ◌&&◌, List, [], eqb, ltb, replicate, Option, Some, None, Result, Ok, Err}
 use Rattle.settings.specs.Panel.{between}
 use Rattle.cut.specs.Blocks.{most_blocks}
 use Rattle.room.specs.Room.{room_size}
@@ -14,8 +14,6 @@ use Rattle.exchange.specs.declared.Exchange.{Exchange}
 use Rattle.link.specs.Setup.{ranged_of, no_settings, settings_in_range}
 use Rattle.link.specs.declared.Setup.{Setup}
 use Rattle.link.specs.declared.Settings.{Settings}
-use Rattle.link.specs.declared.Ranged.{Ranged}
-use Rattle.link.specs.declared.Ranged.TheVariants as ranged
 use Rattle.link.specs.declared.Refusal.{Refusal}
 use Rattle.link.specs.declared.Refusal.TheVariants as refusal
 use Rattle.link.specs.declared.Outcome.{Outcome}
@@ -23,8 +21,6 @@ use Rattle.link.specs.declared.Outcome.TheVariants as outcome
 use Rattle.link.specs.declared.Note.{Note}
 use Rattle.link.specs.declared.Note.TheVariants as note
 use Rattle.link.specs.declared.Answer.{Answer}
-use Rattle.link.specs.declared.Gate.{Gate}
-use Rattle.link.specs.declared.Gate.TheVariants as gate
 use Rattle.link.specs.declared.Link.{Link}
 
 -- the line idle, no place in use
@@ -68,17 +64,17 @@ unfoldable pub room_fits : ℕ → Bool
 room_fits room = eqb room room_size
 
 -- "Order: 1, 2, 3": by the state, and by how many bytes of room and output are lent
-unfoldable pub gate_of : Link → ℕ → ℕ → Gate
+unfoldable pub gate_of : Link → ℕ → ℕ → Result Unit Refusal
 gate_of u room out =
-    cond (output_short out) (gate.Shut refusal.OutputShort)
-    (cond (room_fits room) (cond (link_in_range u) gate.Open (gate.Shut refusal.State)) (gate.Shut refusal.RoomSize))
+    cond (output_short out) (Err refusal.OutputShort)
+    (cond (room_fits room) (cond (link_in_range u) (Ok tt) (Err refusal.State)) (Err refusal.RoomSize))
 
 -- ---- the start
 
 -- a refused start hands back a unit whose settings are out of their ranges: every call refuses it by 3
-abbrev pub start_by : Ranged → ℕ → Answer
-start_by (ranged.Settings s) last = answer_as (fresh_link s last) 0 outcome.Done note.Nothing no_flags
-start_by ranged.OutOfRange last = refused_as (fresh_link no_settings 0) refusal.Setting
+abbrev pub start_by : Option Settings → ℕ → Answer
+start_by (Some s) last = answer_as (fresh_link s last) 0 outcome.Done note.Nothing no_flags
+start_by None last = refused_as (fresh_link no_settings 0) refusal.Setting
 
 abbrev pub start_of : Setup → Answer
 start_of s = start_by (ranged_of s) s.last

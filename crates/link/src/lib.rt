@@ -34,13 +34,6 @@ pub struct Settings {
     pub terms: Terms,
 }
 
-// Whether each setting is in its range.
-#[derive(Clone, Copy)]
-pub enum Ranged {
-    Settings(Settings),
-    OutOfRange,
-}
-
 // The unit's state.
 #[derive(Clone, Copy)]
 pub struct Link {
@@ -103,13 +96,6 @@ pub enum Note {
     Gap,
     // 30 and 31: for the block had this fault.
     Bad(Fault),
-}
-
-// Whether refusals 1 to 3 let a call pass.
-#[derive(Clone, Copy)]
-pub enum Gate {
-    Open,
-    Shut(Refusal),
 }
 
 // A call midway, once the transactions were told: what they are then, and note and flags so far.

@@ -1,5 +1,6 @@
 -- A message that is arriving (`specs/Arriving.antt`) against what an onlooker has seen of it, for a reply to us and for a message of the
 -- far end alike: its blocks, a tick, and its ranges. Assumes nothing.
+use Rattle.std.specs.Prelude.{Option, Some, None}
 use Prim.Native.Nat.{ℕ, ◌+◌, ◌≤◌, ◌<◌}
 use mathlib.Core.Path.{◌≡◌, refl, sym, subst, ◌∙◌}
 use mathlib.Core.Bool.{Bool, true, false, false≢true}
@@ -20,8 +21,6 @@ use Rattle.place.specs.Range.{timer_in_range, length_in_range, arriving_in_range
 use Rattle.place.specs.declared.Arriving.{Arriving}
 use Rattle.place.specs.declared.Fate.{Fate}
 use Rattle.place.specs.declared.Fate.TheVariants.{Empty, TooLong, Last, More}
-use Rattle.place.specs.declared.Waited.{Waited}
-use Rattle.place.specs.declared.Waited.TheVariants.{Broken, Still}
 use Rattle.place.proofs.Messages.{one_longer, first_more, begun_first, whole_first, begun_more, whole_more, none_not_whole, begun_not_whole, number_first, number_one, continues, same_else, by_fate}
 
 -- ---- the onlooker's part
@@ -150,9 +149,9 @@ continues_kept c a s id sys b g =
 
 -- T4 is exceeded, or the message goes on arriving
 pub by_tick :
-    (c : Terms) (a : Arriving) (s : Arrived) → Arrives c a s → (P : Waited → Type 0)
-    → (c.t4.0 < s.quiet + 1 → P Broken)
-    → (Arrives c (arriving_after a (a.timer + 1)) (waits s) → P (Still (arriving_after a (a.timer + 1))))
+    (c : Terms) (a : Arriving) (s : Arrived) → Arrives c a s → (P : Option Arriving → Type 0)
+    → (c.t4.0 < s.quiet + 1 → P None)
+    → (Arrives c (arriving_after a (a.timer + 1)) (waits s) → P (Some (arriving_after a (a.timer + 1))))
     → P (arriving_tick c a)
 unfolding arriving_tick
 by_tick c a s g P out on =
@@ -173,7 +172,7 @@ by_tick c a s g P out on =
 
 -- whatever was seen of the message
 pub by_waited :
-    (c : Terms) (a : Arriving) (P : Waited → Type 0) → P Broken → ((timer : ℕ) → P (Still (arriving_after a timer))) → P (arriving_tick c a)
+    (c : Terms) (a : Arriving) (P : Option Arriving → Type 0) → P None → ((timer : ℕ) → P (Some (arriving_after a timer))) → P (arriving_tick c a)
 unfolding arriving_tick
 by_waited c a P out on = by_timer _ _ (λ t. P (waited_by a t)) (λ late. out) (λ runs. on (a.timer + 1))
 

@@ -1,16 +1,12 @@
 -- A message that is arriving (E4 7.2; 01, "Messages"): from its first block, if that has E = 0, to its last one, or until it breaks.
 -- One machine for a reply to us and for a message of the far end.
-use Rattle.std.specs.Prelude.{ℕ, ◌+◌, Bool, ◌&&◌, eqb}
+use Rattle.std.specs.Prelude.{ℕ, ◌+◌, Bool, ◌&&◌, eqb, Option, Some, None}
 use Rattle.std.specs.Bool.{beq}
 use Rattle.header.specs.declared.header.Header.{Header}
 use Rattle.settings.specs.Timer.{ticked}
 use Rattle.settings.specs.declared.terms.Terms.{Terms}
-use Rattle.settings.specs.declared.timer.Timer.{Timer}
-use Rattle.settings.specs.declared.timer.Timer.TheVariants.{RunsOut, Runs}
 use Rattle.place.specs.declared.Kind.{Kind}
 use Rattle.place.specs.declared.Arriving.{Arriving}
-use Rattle.place.specs.declared.Waited.{Waited}
-use Rattle.place.specs.declared.Waited.TheVariants.{Broken, Still}
 
 -- what a block says of its message
 abbrev pub kind_of : Header → Kind
@@ -27,11 +23,11 @@ abbrev pub arriving_after : Arriving → ℕ → Arriving
 arriving_after a timer = record { timer = timer; next = a.next; kind = a.kind; length = a.length }
 
 -- "T4 beyond its limit breaks the message."
-abbrev pub waited_by : Arriving → Timer → Waited
-waited_by a RunsOut = Broken
-waited_by a (Runs timer) = Still (arriving_after a timer)
+abbrev pub waited_by : Arriving → Option ℕ → Option Arriving
+waited_by a None = None
+waited_by a (Some timer) = Some (arriving_after a timer)
 
-unfoldable pub arriving_tick : Terms → Arriving → Waited
+unfoldable pub arriving_tick : Terms → Arriving → Option Arriving
 arriving_tick c a = waited_by a (ticked c.t4 a.timer)
 
 -- ---- its further blocks

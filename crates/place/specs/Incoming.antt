@@ -1,5 +1,5 @@
 -- The life of a place of a message of the far end (E4 7.4; 01, "Messages").
-use Rattle.std.specs.Prelude.{ℕ, Bool, true, false, cond}
+use Rattle.std.specs.Prelude.{ℕ, Bool, true, false, cond, Option, Some, None}
 use Rattle.header.specs.declared.header.Header.{Header}
 use Rattle.settings.specs.declared.terms.Terms.{Terms}
 use Rattle.place.specs.Message.{no_header}
@@ -8,8 +8,6 @@ use Rattle.place.specs.Arriving.{arriving_from, arriving_tick, continues_arrivin
 use Rattle.place.specs.declared.Fate.{Fate}
 use Rattle.place.specs.declared.Fate.TheVariants.{Empty, TooLong, Last, More}
 use Rattle.place.specs.declared.Arriving.{Arriving}
-use Rattle.place.specs.declared.Waited.{Waited}
-use Rattle.place.specs.declared.Waited.TheVariants as waited
 use Rattle.place.specs.declared.End.{End}
 use Rattle.place.specs.declared.End.TheVariants as end
 use Rattle.place.specs.declared.IncomingStage.{IncomingStage}
@@ -106,9 +104,9 @@ incoming_begun i h size = begun_at i.stage i h size
 -- ---- time
 
 -- "T4 beyond its limit breaks the message. A broken incoming message frees its place."
-abbrev pub open_by : Incoming → Waited → Incoming
-open_by i waited.Broken = stage_at i Free
-open_by i (waited.Still a) = stage_at i (Open a)
+abbrev pub open_by : Incoming → Option Arriving → Incoming
+open_by i None = stage_at i Free
+open_by i (Some a) = stage_at i (Open a)
 
 unfoldable pub open_tick : Terms → Incoming → Arriving → Incoming
 open_tick c i a = open_by i (arriving_tick c a)

@@ -1,11 +1,9 @@
 -- The life of a place of an own transaction (E4 7.3; 01, "Messages").
-use Rattle.std.specs.Prelude.{ℕ, ◌+◌, Bool, true, false, cond, ◌&&◌, List, eqb, replicate}
+use Rattle.std.specs.Prelude.{ℕ, ◌+◌, Bool, true, false, cond, ◌&&◌, List, eqb, replicate, Option, Some, None}
 use Rattle.header.specs.Header.{header_of}
 use Rattle.header.specs.declared.header.Header.{Header}
 use Rattle.settings.specs.Timer.{ticked}
 use Rattle.settings.specs.declared.terms.Terms.{Terms}
-use Rattle.settings.specs.declared.timer.Timer.{Timer}
-use Rattle.settings.specs.declared.timer.Timer.TheVariants.{RunsOut, Runs}
 use Rattle.place.specs.Fate.{begins_reply, fate_of}
 use Rattle.place.specs.Arriving.{arriving_from, arriving_tick, continues_arriving}
 use Rattle.place.specs.declared.Fate.{Fate}
@@ -16,8 +14,6 @@ use Rattle.place.specs.declared.Standing.{Standing}
 use Rattle.place.specs.declared.Standing.TheVariants as standing
 use Rattle.place.specs.declared.Reply.{Reply}
 use Rattle.place.specs.declared.Arriving.{Arriving}
-use Rattle.place.specs.declared.Waited.{Waited}
-use Rattle.place.specs.declared.Waited.TheVariants as waited
 use Rattle.place.specs.declared.OwnStage.{OwnStage}
 use Rattle.place.specs.declared.OwnStage.TheVariants.{Free, Sending, PutOut, Awaiting, Replying, Done}
 use Rattle.place.specs.declared.Own.{Own}
@@ -147,17 +143,17 @@ own_failed o = failed_at o.stage o
 -- ---- time
 
 -- "6 no reply in T3"
-abbrev pub awaited_by : Own → Timer → Own
-awaited_by o RunsOut = ended o NoReply
-awaited_by o (Runs timer) = stage_at o (Awaiting timer)
+abbrev pub awaited_by : Own → Option ℕ → Own
+awaited_by o None = ended o NoReply
+awaited_by o (Some timer) = stage_at o (Awaiting timer)
 
 unfoldable pub await_tick : Terms → Own → ℕ → Own
 await_tick c o timer = awaited_by o (ticked c.t3 timer)
 
 -- "5 broken"
-abbrev pub replying_by : Own → Waited → Own
-replying_by o waited.Broken = ended o Broken
-replying_by o (waited.Still a) = stage_at o (Replying a)
+abbrev pub replying_by : Own → Option Arriving → Own
+replying_by o None = ended o Broken
+replying_by o (Some a) = stage_at o (Replying a)
 
 unfoldable pub reply_tick : Terms → Own → Arriving → Own
 reply_tick c o a = replying_by o (arriving_tick c a)

@@ -30,14 +30,6 @@ pub struct Arriving {
     pub length: u16,
 }
 
-// What a tick leaves of it.
-#[derive(Clone, Copy)]
-pub enum Waited {
-    // "T4 beyond its limit breaks the message."
-    Broken,
-    Still(Arriving),
-}
-
 // A place of an own transaction: from the primary's acceptance to the release of its verdict.
 #[derive(Clone, Copy)]
 pub struct Own {

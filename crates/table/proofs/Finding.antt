@@ -1,4 +1,5 @@
 -- What is found is the lowest that is meant: in a list of marks, and in a table by a test of its places. Assumes nothing.
+use Rattle.std.specs.Prelude.{Option, Some, None}
 use Prim.Native.Nat.{ℕ, zero, suc, ◌+◌, ◌≤◌, ◌<◌}
 use mathlib.Core.Path.{◌≡◌, refl, sym, ap, ◌∙◌}
 use mathlib.Core.Bool.{Bool, true, false, false≢true}
@@ -20,8 +21,6 @@ use Rattle.table.specs.Find.{first_from, first_of}
 use Rattle.table.specs.Own.{free_own, reply_for}
 use Rattle.table.specs.Incoming.{free_incoming, message_for, alike, open_alike}
 use Rattle.table.specs.Theorems.{Lowest, Alike, FoundExactly, FreeOwnLowest, ReplyLowest, FreeIncomingLowest, MessageLowest, OpenAlikeLowest}
-use Rattle.table.specs.declared.Found.{Found}
-use Rattle.table.specs.declared.Found.TheVariants.{At, Nowhere}
 use Rattle.table.proofs.Firsts.{ahead}
 use Rattle.table.proofs.Fours.{map_at}
 
@@ -30,9 +29,9 @@ abbrev NoneBelow : (ℕ → Type 0) → ℕ → Type 0
 NoneBelow Meant p = (q : ℕ) → q < p → Meant q → ⊥
 
 -- how a search over n places ends
-data Ends (n : ℕ) (Meant : ℕ → Type 0) : Found → Type 0 where
-  there : (p : ℕ) → p < n → Meant p → NoneBelow Meant p → Ends n Meant (At p)
-  none : NoneBelow Meant n → Ends n Meant Nowhere
+data Ends (n : ℕ) (Meant : ℕ → Type 0) : Option ℕ → Type 0 where
+  there : (p : ℕ) → p < n → Meant p → NoneBelow Meant p → Ends n Meant (Some p)
+  none : NoneBelow Meant n → Ends n Meant None
 
 -- the lowest is one place and no other
 one_lowest : (Meant : ℕ → Type 0) (p q : ℕ) → Meant p → NoneBelow Meant p → Meant q → NoneBelow Meant q → p ≡ q
@@ -42,9 +41,9 @@ one_lowest Meant p q mp below_p mq below_q =
     omega arith
 
 -- so a search that ends so has found it exactly
-lowest : {n : ℕ} {Meant : ℕ → Type 0} {found : Found} → Ends n Meant found → Lowest n Meant found
+lowest : {n : ℕ} {Meant : ℕ → Type 0} {found : Option ℕ} → Ends n Meant found → Lowest n Meant found
 lowest {n} {Meant} (there p h m below) = record {
-  at = λ q. (λ e. let so : (p < n) × Meant p × NoneBelow Meant p = (h, m, below) in let same : p ≡ q = cc in rw same at so, λ w. ap At (one_lowest Meant p q m below w.1 w.2));
+  at = λ q. (λ e. let so : (p < n) × Meant p × NoneBelow Meant p = (h, m, below) in let same : p ≡ q = cc in rw same at so, λ w. ap Some (one_lowest Meant p q m below w.1 w.2));
   nowhere = (λ e. let z : ◌≡◌ {A = ℕ} 0 1 = cc in absurd (omega arith), λ w. absurd (w p h m));
 }
 lowest (none below) = record {
@@ -53,7 +52,7 @@ lowest (none below) = record {
 }
 
 -- the same places are meant, in other words
-in_other_words : {n : ℕ} {Meant Same : ℕ → Type 0} {found : Found} → ((p : ℕ) → p < n → Meant p ↔ Same p) → Ends n Meant found → Ends n Same found
+in_other_words : {n : ℕ} {Meant Same : ℕ → Type 0} {found : Option ℕ} → ((p : ℕ) → p < n → Meant p ↔ Same p) → Ends n Meant found → Ends n Same found
 in_other_words w (there p h m below) = there p h ((w p h).0 m) (λ q l s. below q l ((w q (omega arith)).1 s))
 in_other_words w (none below) = none (λ q l s. below q l ((w q l).1 s))
 
@@ -76,7 +75,7 @@ unfolding first_from
 walk marks zero i e below = let h : length marks ≤ i = omega arith in rw (drop_of_length-le marks h) (none (λ q h. below q (omega arith)))
 walk marks (suc k) i e below =
     rw (ahead marks i (omega arith))
-    (chosen (Ends (length marks) (Marked marks)) (get_or marks i false) (At i) (first_from (i + 1) (drop (i + 1) marks))
+    (chosen (Ends (length marks) (Marked marks)) (get_or marks i false) (Some i) (first_from (i + 1) (drop (i + 1) marks))
     (λ m. there i (omega arith) m below)
     (λ m. walk marks k (i + 1) (omega arith) (one_further marks i m below)))
 

@@ -1,5 +1,5 @@
 -- What is proved of the definitions of this crate, over all tables of four places. Each proof is in `proofs/`.
-use Rattle.std.specs.Prelude.{ℕ, zero, suc, ◌+◌, ◌*◌, ◌%◌, ◌≤◌, ◌<◌, ◌≡◌, Bool, true, false, List, [], ◌∷◌, ◌↔◌, ◌⊎◌, length, get_or, replicate}
+use Rattle.std.specs.Prelude.{ℕ, zero, suc, ◌+◌, ◌*◌, ◌%◌, ◌≤◌, ◌<◌, ◌≡◌, Bool, true, false, List, [], ◌∷◌, ◌↔◌, ◌⊎◌, length, get_or, replicate, Option, Some, None}
 use Rattle.header.specs.declared.header.Header.{Header}
 use Rattle.settings.specs.declared.terms.Terms.{Terms}
 use Rattle.place.specs.Own.{fresh_own, own_is_free, own_tick, own_takes, primary_of as own_primary}
@@ -11,8 +11,6 @@ use Rattle.table.specs.Find.{first_of}
 use Rattle.table.specs.Own.{own_at, own_put, ticked_own, free_own, reply_for}
 use Rattle.table.specs.Incoming.{incoming_at, incoming_put, ticked_incoming, free_incoming, message_for, open_alike}
 use Rattle.table.specs.Number.{following, next_number}
-use Rattle.table.specs.declared.Found.{Found}
-use Rattle.table.specs.declared.Found.TheVariants.{At, Nowhere}
 
 -- ---- a table
 
@@ -43,9 +41,9 @@ IncomingTable = (is : List Incoming) (c : Terms) → length is ≡ 4 → IsTable
 
 -- What was found of n places is the lowest that is meant: place p exactly if it is meant and no lower one is, nowhere exactly if none
 -- of them is.
-pub record Lowest (n : ℕ) (Meant : ℕ → Type 0) (found : Found) : Type 0 where
-  pub at : (p : ℕ) → (found ≡ At p) ↔ ((p < n) × Meant p × ((q : ℕ) → q < p → Meant q → ⊥))
-  pub nowhere : (found ≡ Nowhere) ↔ ((q : ℕ) → q < n → Meant q → ⊥)
+pub record Lowest (n : ℕ) (Meant : ℕ → Type 0) (found : Option ℕ) : Type 0 where
+  pub at : (p : ℕ) → (found ≡ Some p) ↔ ((p < n) × Meant p × ((q : ℕ) → q < p → Meant q → ⊥))
+  pub nowhere : (found ≡ None) ↔ ((q : ℕ) → q < n → Meant q → ⊥)
 
 -- in any list of marks, the lowest that is marked
 abbrev pub FoundExactly : Type 0

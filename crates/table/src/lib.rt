@@ -2,13 +2,6 @@
 // value: which place an event is for, which is the lowest free one, a tick at all of them, and the next transaction number. A place
 // outside the table is as a free one, and putting one there changes nothing.
 //
-// The model: what a search finds is here, definitions and statements in `specs/`, and the proofs about them. The functions are crate
+// The model: definitions and statements in `specs/`, and the proofs about them; it has no type of its own. The functions are crate
 // `seek`.
 #![tactic(auto)]
-
-// Which place of four is meant.
-#[derive(Clone, Copy)]
-pub enum Found {
-    At(usize),
-    Nowhere,
-}

@@ -1,5 +1,6 @@
 -- The reports that ticks alone can still bring about (02, request 2): those that wait, and one for each own place whose reply is awaited. A tick
 -- leaves no more of them, and one that starts is due no longer. Assumes nothing.
+use Rattle.std.specs.Prelude.{Option, Some, None}
 use Prim.Native.Nat.{ℕ, zero, suc, ◌+◌, ◌≤◌}
 use mathlib.Core.Path.{◌≡◌, refl, sym, ap, subst}
 use mathlib.Core.Bool.{Bool, true, false, false≢true}
@@ -11,15 +12,11 @@ use borrow.Author.Tests.{eqb-false}
 use Rattle.wire.proofs.Choice.{chosen}
 use Rattle.settings.specs.Timer.{ticked}
 use Rattle.settings.specs.declared.terms.Terms.{Terms}
-use Rattle.settings.specs.declared.timer.Timer.{Timer}
-use Rattle.settings.specs.declared.timer.Timer.TheVariants.{RunsOut, Runs}
 use Rattle.place.specs.Arriving.{arriving_tick}
 use Rattle.place.specs.Own.{fresh_own, ended, awaited_by, await_tick, replying_by, reply_tick, own_tick, failed_at, own_failed}
 use Rattle.place.specs.declared.OwnStage.{OwnStage}
 use Rattle.place.specs.declared.OwnStage.TheVariants as stage
 use Rattle.place.specs.declared.Own.{Own}
-use Rattle.place.specs.declared.Waited.{Waited}
-use Rattle.place.specs.declared.Waited.TheVariants as waited
 use Rattle.table.specs.Own.{own_at, ticked_own}
 use Rattle.reports.specs.Reports.{report, added, less_one, without_oldest, showing}
 use Rattle.reports.specs.declared.Report.{Report}
@@ -33,6 +30,7 @@ use Rattle.exchange.specs.declared.Sending.{Sending}
 use Rattle.exchange.specs.declared.Sending.TheVariants as sending
 use Rattle.exchange.specs.declared.Outbox.{Outbox}
 use Rattle.exchange.specs.declared.Exchange.{Exchange}
+use Rattle.place.specs.declared.Arriving.{Arriving}
 
 -- ---- what is due
 
@@ -98,15 +96,15 @@ record Passes (before after : Own) : Type 0 where
 abbrev at : List ℕ → OwnStage → Own
 at h s = record { header = h; stage = s }
 
-awaits_on : (h : List ℕ) (timer : ℕ) (t : Timer) → Passes (at h (stage.Awaiting timer)) (awaited_by (at h (stage.Awaiting timer)) t)
+awaits_on : (h : List ℕ) (timer : ℕ) (t : Option ℕ) → Passes (at h (stage.Awaiting timer)) (awaited_by (at h (stage.Awaiting timer)) t)
 unfolding got_no_reply got_verdict ended
-awaits_on h timer RunsOut = record { less = omega arith; late = λ e. omega arith }
-awaits_on h timer (Runs n) = record { less = omega arith; late = λ e. absurd (false≢true e) }
+awaits_on h timer None = record { less = omega arith; late = λ e. omega arith }
+awaits_on h timer (Some n) = record { less = omega arith; late = λ e. absurd (false≢true e) }
 
-replies_on : (h : List ℕ) (a : _) (w : Waited) → Passes (at h (stage.Replying a)) (replying_by (at h (stage.Replying a)) w)
+replies_on : (h : List ℕ) (a : _) (w : Option Arriving) → Passes (at h (stage.Replying a)) (replying_by (at h (stage.Replying a)) w)
 unfolding got_no_reply got_verdict ended
-replies_on h a waited.Broken = record { less = omega arith; late = λ e. absurd (false≢true e) }
-replies_on h a (waited.Still b) = record { less = omega arith; late = λ e. absurd (false≢true e) }
+replies_on h a None = record { less = omega arith; late = λ e. absurd (false≢true e) }
+replies_on h a (Some b) = record { less = omega arith; late = λ e. absurd (false≢true e) }
 
 passes_at : (c : Terms) (h : List ℕ) (s : OwnStage) → Passes (at h s) (own_tick c (at h s))
 unfolding got_no_reply got_verdict await_tick reply_tick

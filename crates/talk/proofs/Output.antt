@@ -1,6 +1,7 @@
 -- What a line puts out has room (`specs/Output.antt`). In one `T`: a NAK, the ENQ of a held block, one for each retry, and as many for each
 -- report that starts, of which twelve at most are due. In one `B`: one block, for it has to be drained before another byte counts, and two
 -- codes for every other byte. Assumes nothing.
+use Rattle.std.specs.Prelude.{Option, Some, None}
 use Prim.Native.Nat.{ℕ, suc, ◌+◌, ◌-◌, ◌*◌, ◌≤◌, ◌<◌}
 use mathlib.Core.Path.{◌≡◌, refl, sym, ap, subst, ◌∙◌}
 use mathlib.Core.Bool.{Bool, true, false}
@@ -16,8 +17,6 @@ use Rattle.wire.proofs.Choice.{chosen}
 use Rattle.settings.specs.Panel.{between}
 use Rattle.settings.specs.Timer.{ticked}
 use Rattle.settings.specs.declared.limits.Limits.{Limits}
-use Rattle.settings.specs.declared.timer.Timer.{Timer}
-use Rattle.settings.specs.declared.timer.Timer.TheVariants.{RunsOut, Runs}
 use Rattle.line.specs.Codes.{ENQ, EOT, ACK, bytes_out}
 use Rattle.line.specs.Line.{Heard, ask_at, holding, line_at, spent, retry_of, give_way, eot_byte, ack_byte, length_byte, low_byte, body_byte, idle_byte, byte_at, eot_tick, ack_tick, length_tick, body_tick, silence_tick, tick_at, tick_of, settle_idle, settle_at, settle_of}
 use Rattle.line.specs.declared.phase.Phase.{Phase}
@@ -85,13 +84,13 @@ retry_less c h p tries =
     chosen (Less c.rty (c.rty - tries + held_most c.rty h)) (ltb c.rty (tries + 1)) _ _ (λ e. omega arith)
     (λ e. let left = ltb-false c.rty (tries + 1) e in omega arith)
 
-eot_less : (c : Limits) (h : Bool) (p : Phase) (tries : ℕ) (t : Timer) → Less c.rty (c.rty - tries + held_most c.rty h) (eot_tick c (line_at h p) tries t)
-eot_less c h p tries RunsOut = retry_less c h p tries
-eot_less c h p tries (Runs timer) = omega arith
+eot_less : (c : Limits) (h : Bool) (p : Phase) (tries : ℕ) (t : Option ℕ) → Less c.rty (c.rty - tries + held_most c.rty h) (eot_tick c (line_at h p) tries t)
+eot_less c h p tries None = retry_less c h p tries
+eot_less c h p tries (Some timer) = omega arith
 
-ack_less : (c : Limits) (h : Bool) (p : Phase) (tries : ℕ) (t : Timer) → Less c.rty (c.rty - tries + held_most c.rty h) (ack_tick c (line_at h p) tries t)
-ack_less c h p tries RunsOut = retry_less c h p tries
-ack_less c h p tries (Runs timer) = omega arith
+ack_less : (c : Limits) (h : Bool) (p : Phase) (tries : ℕ) (t : Option ℕ) → Less c.rty (c.rty - tries + held_most c.rty h) (ack_tick c (line_at h p) tries t)
+ack_less c h p tries None = retry_less c h p tries
+ack_less c h p tries (Some timer) = omega arith
 
 tick_less : (c : Limits) (h : Bool) (p : Phase) → Less c.rty (most c.rty (line_at h p)) (tick_at c p (line_at h p))
 tick_less c h Idle = omega arith
@@ -100,19 +99,19 @@ tick_less c h (Draining tries) = omega arith
 tick_less c h (WaitAck timer tries) = ack_less c h _ tries (ticked c.t2 timer)
 tick_less c h (WaitLength timer) = by (ticked c.t2 timer)
   where
-    by : (t : Timer) → Less c.rty (1 + held_most c.rty h) (length_tick (line_at h (WaitLength timer)) t)
-    by RunsOut = omega arith
-    by (Runs n) = omega arith
+    by : (t : Option ℕ) → Less c.rty (1 + held_most c.rty h) (length_tick (line_at h (WaitLength timer)) t)
+    by None = omega arith
+    by (Some n) = omega arith
 tick_less c h (Body timer a) = by (ticked c.t1 timer)
   where
-    by : (t : Timer) → Less c.rty (1 + held_most c.rty h) (body_tick (line_at h (Body timer a)) a t)
-    by RunsOut = omega arith
-    by (Runs n) = omega arith
+    by : (t : Option ℕ) → Less c.rty (1 + held_most c.rty h) (body_tick (line_at h (Body timer a)) a t)
+    by None = omega arith
+    by (Some n) = omega arith
 tick_less c h (Silence timer fault) = by (ticked c.t1 timer)
   where
-    by : (t : Timer) → Less c.rty (1 + held_most c.rty h) (silence_tick (line_at h (Silence timer fault)) fault t)
-    by RunsOut = omega arith
-    by (Runs n) = omega arith
+    by : (t : Option ℕ) → Less c.rty (1 + held_most c.rty h) (silence_tick (line_at h (Silence timer fault)) fault t)
+    by None = omega arith
+    by (Some n) = omega arith
 
 settle_less : (r : ℕ) (h : Bool) (p : Phase) → Less r (most r (line_at h p)) (settle_at p (line_at h p))
 unfolding settle_idle

@@ -1,4 +1,5 @@
 -- What leaves in a call is what the calls of the line put out that it makes (`specs/Door.antt`). Assumes nothing.
+use Rattle.std.specs.Prelude.{Ok}
 use Prim.Native.Nat.{ℕ, ◌<◌}
 use mathlib.Core.Path.{◌≡◌, refl, sym, ap, ◌∙◌}
 use mathlib.Core.List.{List, [], ◌∷◌, ◌++◌, append-nil}
@@ -21,7 +22,6 @@ use Rattle.line.specs.declared.step.Step.{Step}
 use Rattle.line.specs.declared.line.Line.{Line}
 use Rattle.exchange.specs.Reports.{same_message}
 use Rattle.exchange.specs.Request.{Request, lends, is_sending}
-use Rattle.exchange.specs.declared.Asked.TheVariants as asked
 use Rattle.link.specs.Courier.{courier_by}
 use Rattle.link.specs.Run.{Left, untold, carried_by, codes, course, block_bytes, hears, passing, stepped, byte_stepped}
 use Rattle.link.specs.Call.{gated, requested_by}
@@ -126,7 +126,7 @@ module _ (u : Link) (room o : List ℕ) where
   -- a message that is accepted
   taken_bytes :
       (r : Request) (p : ℕ)
-      → Put (settling (couriers_in u room (request r))) (requested_by (asked.Taken p) u (answering u r room).answer.exchange (answering u r room).room o)
+      → Put (settling (couriers_in u room (request r))) (requested_by (Ok p) u (answering u r room).answer.exchange (answering u r room).room o)
   taken_bytes r p =
       course_bytes u.settings.limits u.received block u out.Nothing told.Nothing (untold (answering u r room).answer.exchange note.Nothing)
       (outcome.Taken p) (answering u r room).room o

@@ -1,6 +1,7 @@
 -- The courier's calls of the line (`specs/History.antt`): where the line and the transactions agree on whether a message is being sent, it
 -- asks for a message's next block, for an accepted message and for a report that starts, has a message withdrawn that is over, and else makes
 -- no call. Assumes nothing.
+use Rattle.std.specs.Prelude.{Ok}
 use Prim.Native.Nat.{ℕ, ◌<◌}
 use mathlib.Core.Path.{◌≡◌, refl, sym, ap, subst, ◌∙◌}
 use mathlib.Core.Bool.{Bool, true, false, not}
@@ -14,7 +15,6 @@ use Rattle.line.specs.declared.step.Told.{Told}
 use Rattle.line.specs.declared.step.Told.TheVariants as told
 use Rattle.exchange.specs.Reports.{same_message}
 use Rattle.exchange.specs.Request.{Request, lends, sending_by, is_sending}
-use Rattle.exchange.specs.declared.Asked.TheVariants as asked
 use Rattle.exchange.proofs.BeingSent.{request_sends}
 use Rattle.exchange.proofs.Unreported.{idle}
 use Rattle.exchange.proofs.Same.{same_message_lem, message_same, other_message, message_other}
@@ -187,7 +187,7 @@ drained_calls u room =
 
 -- a message that is accepted: none was being sent, and now one is
 pub lent_calls :
-    (u : Link) (room : List ℕ) (r : Request) (p : ℕ) → (answering u r room).answer.asked ≡ asked.Taken p → lends r ≡ true
+    (u : Link) (room : List ℕ) (r : Request) (p : ℕ) → (answering u r room).answer.asked ≡ Ok p → lends r ≡ true
     → on_line u room (request r) ≡ line.ask ∷ line.settle ∷ []
 lent_calls u room r p e lent =
     let starts = (request_sends u.settings.terms u.exchange r room).starts p e lent in

@@ -1,4 +1,5 @@
 -- What each call gets at the door (`specs/Hearing.antt`). Assumes nothing.
+use Rattle.std.specs.Prelude.{Ok}
 use Prim.Native.Nat.{ℕ, ◌<◌}
 use mathlib.Core.Path.{◌≡◌, refl, sym, ap, subst, ◌∙◌}
 use mathlib.Core.Bool.{Bool, true, false}
@@ -17,7 +18,6 @@ use Rattle.line.specs.declared.phase.Phase.{Phase}
 use Rattle.line.specs.declared.step.Told.{Told}
 use Rattle.line.specs.declared.step.Told.TheVariants as told
 use Rattle.exchange.specs.Request.{Request, lends}
-use Rattle.exchange.specs.declared.Asked.TheVariants as asked
 use Rattle.exchange.proofs.BeingSent.{request_sends}
 use Rattle.exchange.proofs.Same.{message_same}
 use Rattle.link.specs.Answer.{accepted}
@@ -95,7 +95,7 @@ module _ (t : Track) (r : Reached t) (lent : Room) (o : List ℕ) where
       )
 
   -- a message that is accepted finds none under way
-  begun : (q : Request) (p : ℕ) → (answering u q room).answer.asked ≡ asked.Taken p → lends q ≡ true → (since : ℕ) → Got since (request q) (line.ask ∷ line.settle ∷ [])
+  begun : (q : Request) (p : ℕ) → (answering u q room).answer.asked ≡ Ok p → lends q ≡ true → (since : ℕ) → Got since (request q) (line.ask ∷ line.settle ∷ [])
   begun q p e l since =
       let idle = none_under_way u.line (sym (agrees t r).same ∙ ((request_sends (terms_in t) u.exchange q room).starts p e l).before) in
       let ks = line.ask ∷ line.settle ∷ [] in

@@ -1,4 +1,5 @@
 -- The numbers of a unit that was reached are in their ranges: refusal 3 is never given. Assumes nothing.
+use Rattle.std.specs.Prelude.{Result, Ok, Err}
 use Prim.Native.Nat.{ℕ, ◌≤◌}
 use mathlib.Core.Path.{◌≡◌, refl, sym, ap, subst, ◌∙◌}
 use mathlib.Core.Bool.{Bool, true, false, false≢true}
@@ -28,8 +29,6 @@ use Rattle.link.specs.declared.Refusal.TheVariants as refusal
 use Rattle.link.specs.declared.Outcome.{Outcome}
 use Rattle.link.specs.declared.Outcome.TheVariants as outcome
 use Rattle.link.specs.declared.Answer.{Answer}
-use Rattle.link.specs.declared.Gate.{Gate}
-use Rattle.link.specs.declared.Gate.TheVariants as gate
 use Rattle.link.specs.declared.Link.{Link}
 use Rattle.link.proofs.Cases.{by_gate, by_byte, by_answer, behind_by}
 use Rattle.link.proofs.inside.Reached.{settings_stay, line_inside}
@@ -83,9 +82,9 @@ NotThree outcome.Done = Unit {0}
 NotThree (outcome.Taken p) = Unit {0}
 NotThree (outcome.Refused r) = Other r
 
-abbrev Lets : Gate → Type 0
-Lets gate.Open = Unit {0}
-Lets (gate.Shut r) = Other r
+abbrev Lets : Result Unit Refusal → Type 0
+Lets (Ok tt) = Unit {0}
+Lets (Err r) = Other r
 
 module _ (u : Link) (ranged : link_in_range u ≡ true) where
   not_three : {A : Type 0} → link_in_range u ≡ false → A
@@ -97,7 +96,7 @@ module _ (u : Link) (ranged : link_in_range u ≡ true) where
       chosen Lets (output_short o) _ _ (λ e. tt)
       (λ e. chosen Lets (room_fits room) _ _ (λ f. chosen Lets (link_in_range u) _ _ (λ g. tt) (λ g. not_three g)) (λ f. tt))
 
-  shut_other : (room o : List ℕ) (r : Refusal) → gate_of u (length room) (length o) ≡ gate.Shut r → Other r
+  shut_other : (room o : List ℕ) (r : Refusal) → gate_of u (length room) (length o) ≡ Err r → Other r
   shut_other room o r e = subst Lets e (gate_lets (length room) (length o))
 
   module _ (room o : List ℕ) where

@@ -1,5 +1,6 @@
 -- What holds of a unit at its start, and after one call more, holds of all that can be reached; so the line inside is one that can be
 -- reached. Assumes nothing.
+use Rattle.std.specs.Prelude.{Option}
 use mathlib.Core.Path.{◌≡◌, refl, sym, ap, subst, ◌∙◌}
 use mathlib.Core.List.{List, [], ◌∷◌, ◌++◌}
 use lib.ListN.{replicate}
@@ -11,7 +12,6 @@ use Rattle.link.specs.History.{Made, Track, line_track, limits_in, on_line_in, l
 use Rattle.link.specs.State.{start_by}
 use Rattle.link.specs.Inside.{Reached, CallsReach, SettingsStay, LineInside}
 use Rattle.link.specs.declared.Settings.{Settings}
-use Rattle.link.specs.declared.Ranged.{Ranged}
 use Rattle.link.proofs.inside.Line.{line_goes, settings_kept}
 
 -- ---- any calls
@@ -47,7 +47,7 @@ unfolding track
 calls_reach = record {
   start = λ s z e room w. (
     record { setup = s; settings = z; started = e; room = room; whole = w; calls = []; so = refl },
-    sym (ap (λ (k : Ranged). (start_by k s.last).link) e),
+    sym (ap (λ (k : Option Settings). (start_by k s.last).link) e),
   );
   call = λ t w m. (reached_next t w m, refl);
 }

@@ -1,4 +1,5 @@
 -- How one call moves what the onlooker of an incoming place has seen (`specs/Moves.antt`). Assumes nothing.
+use Rattle.std.specs.Prelude.{Option, Some, None, Ok}
 use Prim.Native.Nat.{ℕ, ◌<◌}
 use mathlib.Core.Path.{◌≡◌, refl, sym, ap, ◌∙◌, subst}
 use mathlib.Core.Bool.{Bool, false, cond, false≢true}
@@ -19,8 +20,6 @@ use Rattle.place.proofs.Completing.{incoming_ticked}
 use Rattle.table.specs.Own.{reply_for}
 use Rattle.table.specs.Incoming.{message_for, open_alike, free_incoming}
 use Rattle.table.proofs.Finding.{message_lowest, open_alike_lowest, free_incoming_lowest}
-use Rattle.table.specs.declared.Found.{Found}
-use Rattle.table.specs.declared.Found.TheVariants.{At, Nowhere}
 use Rattle.exchange.specs.Note.{note_number as block_note}
 use Rattle.exchange.specs.Exchange.{incoming_place}
 use Rattle.exchange.specs.Judge.{judge_of}
@@ -31,7 +30,6 @@ use Rattle.exchange.specs.Watching.{found_at, told_by, taken_by, sees_block, fre
 use Rattle.exchange.specs.declared.Note.{Note}
 use Rattle.exchange.specs.declared.Note.TheVariants.{Kept}
 use Rattle.exchange.specs.declared.Exchange.{Exchange}
-use Rattle.exchange.specs.declared.Asked.TheVariants as asked
 use Rattle.exchange.proofs.Cases.{by_found}
 use Rattle.exchange.proofs.Finding.{found, lowest}
 use Rattle.exchange.proofs.Judging as test
@@ -47,10 +45,10 @@ use Rattle.link.proofs.moves.Notes.{by_note, kept_note, spoilt_note, up_noted}
 use Rattle.link.proofs.moves.Own.{found_at_lem}
 
 -- the data of a first block is joined where it takes its place
-new_joined : (a f : Found) (p : ℕ) (s : exchange.Joined) (d : List ℕ) → taken_by a f ≡ At p → (exchange.of_new a f s d).messages p ≡ d
-new_joined (At q) f p s d e = let z : q ≡ p = cc in subst (λ i. exchange.anew s.messages q d i ≡ d) z (anew_here s.messages q d)
-new_joined Nowhere (At q) p s d e = let z : q ≡ p = cc in subst (λ i. exchange.anew s.messages q d i ≡ d) z (anew_here s.messages q d)
-new_joined Nowhere Nowhere p s d e = absurd (false≢true (ap found e))
+new_joined : (a f : Option ℕ) (p : ℕ) (s : exchange.Joined) (d : List ℕ) → taken_by a f ≡ Some p → (exchange.of_new a f s d).messages p ≡ d
+new_joined (Some q) f p s d e = let z : q ≡ p = cc in subst (λ i. exchange.anew s.messages q d i ≡ d) z (anew_here s.messages q d)
+new_joined None (Some q) p s d e = let z : q ≡ p = cc in subst (λ i. exchange.anew s.messages q d i ≡ d) z (anew_here s.messages q d)
+new_joined None None p s d e = absurd (false≢true (ap found e))
 
 module _ (t : Track) (w : Reached t) (p : ℕ) (within : p < 4) where
   abbrev c : Terms
@@ -67,35 +65,35 @@ module _ (t : Track) (w : Reached t) (p : ℕ) (within : p < 4) where
 
   -- ---- which place a block is for
 
-  no_reply : (b : Header) → reply_for x.own b ≡ Nowhere → ReplyHere x b → ⊥
+  no_reply : (b : Header) → reply_for x.own b ≡ None → ReplyHere x b → ⊥
   no_reply b e h = false≢true (sym (ap found e) ∙ (test.reply_here x four b).1 h)
 
-  no_message : (b : Header) → message_for x.incoming b ≡ Nowhere → MessageHere x b → ⊥
+  no_message : (b : Header) → message_for x.incoming b ≡ None → MessageHere x b → ⊥
   no_message b e h = false≢true (sym (ap found e) ∙ (test.message_here x four b).1 h)
 
-  no_alike : (b : Header) → open_alike x.incoming b ≡ Nowhere → AlikeHere x b → ⊥
+  no_alike : (b : Header) → open_alike x.incoming b ≡ None → AlikeHere x b → ⊥
   no_alike b e h = false≢true (sym (ap found e) ∙ (test.alike_here x four b).1 h)
 
-  of_message_lem : (b : Header) → message_for x.incoming b ≡ At p → LowestAt (λ q. OfMessage (incoming_place x q) b) p
+  of_message_lem : (b : Header) → message_for x.incoming b ≡ Some p → LowestAt (λ q. OfMessage (incoming_place x q) b) p
   of_message_lem b e =
       (lowest (message_for x.incoming b) _ (λ q. OfMessage (incoming_place x q) b) (message_lowest x.incoming b four.incoming)
       (λ q. test.message_says (incoming_place x q) b) p).0 e
 
-  abbrev new_for : Header → Found
+  abbrev new_for : Header → Option ℕ
   new_for b = taken_by (open_alike x.incoming b) (free_incoming x.incoming)
 
-  takes : (b : Header) → new_for b ≡ At p → TakesPlace x b p
+  takes : (b : Header) → new_for b ≡ Some p → TakesPlace x b p
   takes b =
-      by_found (open_alike x.incoming b) (λ f. taken_by f (free_incoming x.incoming) ≡ At p → TakesPlace x b p)
+      by_found (open_alike x.incoming b) (λ f. taken_by f (free_incoming x.incoming) ≡ Some p → TakesPlace x b p)
       (λ q a e. inl ((lowest (open_alike x.incoming b) _ (AlikeAt x b) (open_alike_lowest x.incoming b four.incoming) (λ i. Iff.rfl) p).0 (a ∙ e)))
       (λ a e.
       let free = free_incoming_lowest x.incoming four.incoming in
       inr (no_alike b a, (lowest (free_incoming x.incoming) _ (FreeAt x) free (λ i. test.is_free (incoming_place x i).stage) p).0 e))
 
-  taken : (b : Header) → TakesPlace x b p → new_for b ≡ At p
+  taken : (b : Header) → TakesPlace x b p → new_for b ≡ Some p
   taken b =
-      ⊎_elim (λ a. ap (λ (f : Found). taken_by f (free_incoming x.incoming)) (test.lowest_alike x four b p a))
-      (λ a. ap (λ (f : Found). taken_by f (free_incoming x.incoming)) (test.no_alike x four b a.0) ∙ test.lowest_free x four b p a.1)
+      ⊎_elim (λ a. ap (λ (f : Option ℕ). taken_by f (free_incoming x.incoming)) (test.lowest_alike x four b p a))
+      (λ a. ap (λ (f : Option ℕ). taken_by f (free_incoming x.incoming)) (test.no_alike x four b a.0) ∙ test.lowest_free x four b p a.1)
 
   module _ (m : Made) where
     abbrev room : List ℕ
@@ -128,10 +126,10 @@ module _ (t : Track) (w : Reached t) (p : ℕ) (within : p < 4) where
       block_step =
           by_found (reply_for x.own b) (λ f. Goes (sees_block f (message_for x.incoming b) (new_for b) p (told_by k) s b (length d))) (λ q r. same n)
           (λ r.
-          by_found (message_for x.incoming b) (λ f. Goes (sees_block Nowhere f (new_for b) p (told_by k) s b (length d)))
+          by_found (message_for x.incoming b) (λ f. Goes (sees_block None f (new_for b) p (told_by k) s b (length d)))
           (λ q o.
           either (eqb q p) (λ z. Goes (cond z (incoming.sees_next (told_by k) s b (length d)) s))
-          (λ z. next_step (no_reply b r) (of_message_lem b (o ∙ ap At (eqb-true q p z)))) (λ z. same n))
+          (λ z. next_step (no_reply b r) (of_message_lem b (o ∙ ap Some (eqb-true q p z)))) (λ z. same n))
           (λ o.
           either (found_at (new_for b) p) (λ z. Goes (cond z (incoming.sees_first (told_by k) s b (length d)) s))
           (λ z. first_step (no_reply b r) (no_message b o) (takes b (found_at_lem (new_for b) p z))) (λ z. same n)))
@@ -139,7 +137,7 @@ module _ (t : Track) (w : Reached t) (p : ℕ) (within : p < 4) where
     -- ---- all that a call can be to this onlooker
 
     -- by what was asked for, where it took this place
-    took : (r : Request) → Tells t m (exchange.request r) → (Ticks t m → ⊥) → (answer_of c x r room).answer.asked ≡ asked.Taken p → Goes (incoming_taken s r)
+    took : (r : Request) → Tells t m (exchange.request r) → (Ticks t m → ⊥) → (answer_of c x r room).answer.asked ≡ Ok p → Goes (incoming_taken s r)
     took (primary q d) a n e = same n
     took (reply q f d) a n e = same n
     took (freeing_own q) a n e = same n
@@ -169,14 +167,14 @@ module _ (t : Track) (w : Reached t) (p : ℕ) (within : p < 4) where
     -- ---- and back
 
     -- a block, by the places that are found for it
-    block_so : (h d : List ℕ) → GoesUp t m h d → (r o f : Found) → reply_for x.own (header_of h) ≡ r → message_for x.incoming (header_of h) ≡ o
+    block_so : (h d : List ℕ) → GoesUp t m h d → (r o f : Option ℕ) → reply_for x.own (header_of h) ≡ r → message_for x.incoming (header_of h) ≡ o
         → new_for (header_of h) ≡ f
         → (next t m).incoming p ≡ sees_block r o f p (told_by (judge_of c x h d room).answer.note) s (header_of h) (length d)
     block_so h d g r o f er eo ef =
         seen_alone t m (incoming_sees c p) s (exchange.block h d) refl g
         ∙ (λ i. sees_block (er i) (eo i) (ef i) p (told_by (judge_of c x h d room).answer.note) s (header_of h) (length d))
 
-    joined_so : (h d : List ℕ) → GoesUp t m h d → (r o : Found) → reply_for x.own (header_of h) ≡ r → message_for x.incoming (header_of h) ≡ o
+    joined_so : (h d : List ℕ) → GoesUp t m h d → (r o : Option ℕ) → reply_for x.own (header_of h) ≡ r → message_for x.incoming (header_of h) ≡ o
         → (judge_of c x h d room).answer.note ≡ Kept
         → (next t m).joined.messages p ≡ (exchange.of_reply r o (open_alike x.incoming (header_of h)) (free_incoming x.incoming) t.joined d).messages p
     unfolding exchange.track
@@ -200,15 +198,15 @@ module _ (t : Track) (w : Reached t) (p : ℕ) (within : p < 4) where
         let o = test.no_message x four b g.no_message in
         let f = taken b g.place in
         let k = kept_here h d g.up g.note in (
-          block_so h d g.up Nowhere Nowhere (At p) r o f ∙ chosen_here _ ∙ ap (λ (z : Note). incoming.sees_first (told_by z) s b (length d)) k,
-          joined_so h d g.up Nowhere Nowhere r o k ∙ new_joined (open_alike x.incoming b) (free_incoming x.incoming) p t.joined d f,
+          block_so h d g.up None None (Some p) r o f ∙ chosen_here _ ∙ ap (λ (z : Note). incoming.sees_first (told_by z) s b (length d)) k,
+          joined_so h d g.up None None r o k ∙ new_joined (open_alike x.incoming b) (free_incoming x.incoming) p t.joined d f,
         )
 
     next_so : (n : ℕ) (h d : List ℕ) → Continued t m p n h d
         → (next t m).incoming p ≡ incoming.sees_next (told_by (judge_of c x h d room).answer.note) s (header_of h) (length d)
     next_so n h d g =
         let b = header_of h in
-        block_so h d g.up Nowhere (At p) (new_for b) (test.no_reply x four b g.no_reply) (test.lowest_message x four b p g.of_it) refl ∙ chosen_here _
+        block_so h d g.up None (Some p) (new_for b) (test.no_reply x four b g.no_reply) (test.lowest_message x four b p g.of_it) refl ∙ chosen_here _
 
     kept_so : (h d : List ℕ) → Continued t m p 21 h d
         → ((next t m).incoming p ≡ incoming.sees_next own.kept s (header_of h) (length d)) × ((next t m).joined.messages p ≡ t.joined.messages p ++ d)
@@ -216,7 +214,7 @@ module _ (t : Track) (w : Reached t) (p : ℕ) (within : p < 4) where
         let b = header_of h in
         let k = kept_here h d g.up g.note in (
           next_so 21 h d g ∙ ap (λ (z : Note). incoming.sees_next (told_by z) s b (length d)) k,
-          joined_so h d g.up Nowhere (At p) (test.no_reply x four b g.no_reply) (test.lowest_message x four b p g.of_it) k
+          joined_so h d g.up None (Some p) (test.no_reply x four b g.no_reply) (test.lowest_message x four b p g.of_it) k
               ∙ anew_here t.joined.messages p (t.joined.messages p ++ d),
         )
 

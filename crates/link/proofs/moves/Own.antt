@@ -1,4 +1,5 @@
 -- How one call moves what the onlooker of an own place has seen (`specs/Moves.antt`). Assumes nothing.
+use Rattle.std.specs.Prelude.{Option, Some, None, Ok}
 use Prim.Native.Nat.{ℕ, ◌+◌, ◌<◌}
 use mathlib.Core.Path.{◌≡◌, refl, sym, ap, ◌∙◌, subst}
 use mathlib.Core.Bool.{Bool, true, false, cond, false≢true}
@@ -21,8 +22,6 @@ use Rattle.place.specs.declared.Standing.TheVariants as standing
 use Rattle.table.specs.Own.{reply_for}
 use Rattle.table.specs.Incoming.{message_for, open_alike, free_incoming}
 use Rattle.table.proofs.Finding.{reply_lowest}
-use Rattle.table.specs.declared.Found.{Found}
-use Rattle.table.specs.declared.Found.TheVariants.{At, Nowhere}
 use Rattle.exchange.specs.Note.{note_number as block_note}
 use Rattle.exchange.specs.Exchange.{own_place, sent_from}
 use Rattle.exchange.specs.Judge.{judge_of}
@@ -34,7 +33,6 @@ use Rattle.exchange.specs.Watching.{found_at, told_by, accepted_as, own_taken, o
 use Rattle.exchange.specs.Underway.{OnItsWay, Underway}
 use Rattle.exchange.specs.declared.Note.{Note}
 use Rattle.exchange.specs.declared.Exchange.{Exchange}
-use Rattle.exchange.specs.declared.Asked.TheVariants as asked
 use Rattle.exchange.specs.declared.Primary.{Primary}
 use Rattle.exchange.specs.declared.Requested.{Requested}
 use Rattle.exchange.proofs.Accepting.{not_taken, accepted_opens}
@@ -84,15 +82,15 @@ underway_exactly t w p k =
 
 -- ---- what was found
 
-pub found_at_lem : (f : Found) (p : ℕ) → found_at f p ≡ true → f ≡ At p
-found_at_lem (At q) p e = ap At (eqb-true q p e)
-found_at_lem Nowhere p e = absurd (false≢true e)
+pub found_at_lem : (f : Option ℕ) (p : ℕ) → found_at f p ≡ true → f ≡ Some p
+found_at_lem (Some q) p e = ap Some (eqb-true q p e)
+found_at_lem None p e = absurd (false≢true e)
 
 -- a place that is free has no verdict to release
-released_verdict : (x : Exchange) (p : ℕ) → (release_own x p).asked ≡ asked.Taken p → own_standing (own_place x p) ≡ standing.Free → ⊥
+released_verdict : (x : Exchange) (p : ℕ) → (release_own x p).asked ≡ Ok p → own_standing (own_place x p) ≡ standing.Free → ⊥
 unfolding release_own refused_by
 released_verdict x p e f =
-    chosen (λ (a : Requested). a.asked ≡ asked.Taken p → ⊥) (own_has_verdict (own_place x p)) _ _
+    chosen (λ (a : Requested). a.asked ≡ Ok p → ⊥) (own_has_verdict (own_place x p)) _ _
     (λ v z. absurd (false≢true (sym (ap given_by f) ∙ v))) (λ v z. not_taken z) e
 
 -- ---- lists of blocks
@@ -161,7 +159,7 @@ module _ (t : Track) (w : Reached t) (p : ℕ) (within : p < 4) where
   four = four_places x (sound_inside t w)
 
   -- the reply of place p is the one found
-  of_reply_lem : (b : Header) → (reply_for x.own b ≡ At p) ↔ LowestAt (λ q. OfReply (own_place x q) b) p
+  of_reply_lem : (b : Header) → (reply_for x.own b ≡ Some p) ↔ LowestAt (λ q. OfReply (own_place x q) b) p
   of_reply_lem b = lowest (reply_for x.own b) _ (λ q. OfReply (own_place x q) b) (reply_lowest x.own b four.own) (λ q. reply_says (own_place x q) b) p
 
   -- a request that is being sent from here is underway or out
@@ -188,12 +186,12 @@ module _ (t : Track) (w : Reached t) (p : ℕ) (within : p < 4) where
     -- ---- a primary that takes this place
 
     -- it was free
-    taken_free : (q : Primary) (d : List ℕ) → (answer_of c x (primary q d) room).answer.asked ≡ asked.Taken p → s.request ≡ own.none
+    taken_free : (q : Primary) (d : List ℕ) → (answer_of c x (primary q d) room).answer.asked ≡ Ok p → s.request ≡ own.none
     taken_free q d e =
         let free = (accepted_opens c x q d room four p e).lowest.so in
         (free_exactly c _ ((places_inside t w).own p within)).0 (ap standing_at free)
 
-    asked_so : (q : Primary) (d : List ℕ) → (answer_of c x (primary q d) room).answer.asked ≡ asked.Taken p
+    asked_so : (q : Primary) (d : List ℕ) → (answer_of c x (primary q d) room).answer.asked ≡ Ok p
         → own.asked s.request s (accepted_as c x q (length d)) ≡ underway_with s (accepted_as c x q (length d))
     asked_so q d e = ap (λ (r : own.Request). own.asked r s (accepted_as c x q (length d))) (taken_free q d e)
 
@@ -222,7 +220,7 @@ module _ (t : Track) (w : Reached t) (p : ℕ) (within : p < 4) where
         (λ z. same n) o
 
     -- by what was asked for, where it took this place
-    took : (r : Request) → Tells t m (exchange.request r) → (Ticks t m → ⊥) → (answer_of c x r room).answer.asked ≡ asked.Taken p
+    took : (r : Request) → Tells t m (exchange.request r) → (Ticks t m → ⊥) → (answer_of c x r room).answer.asked ≡ Ok p
         → (answered t m).answer.outcome ≡ outcome.Taken p → Goes (own_taken c x s r)
     took (primary q d) a n e o = subst Goes (sym (asked_so q d e)) (opens q (record { rest = d; told = a; place = o }))
     took (reply q f d) a n e o = same n
@@ -378,8 +376,8 @@ module _ (t : Track) (w : Reached t) (p : ℕ) (within : p < 4) where
         let z : outcome.Taken w.place ≡ outcome.Taken p = sym w.outcome ∙ o.place in
         cc
 
-    opened_asked : (q : Primary) (o : Opens t m p q) → (answer_of c x (primary q o.rest) room).answer.asked ≡ asked.Taken p
-    opened_asked q o = (request_taken t m (primary q o.rest) o.told).asked ∙ ap asked.Taken (opened_at q o)
+    opened_asked : (q : Primary) (o : Opens t m p q) → (answer_of c x (primary q o.rest) room).answer.asked ≡ Ok p
+    opened_asked q o = (request_taken t m (primary q o.rest) o.told).asked ∙ ap Ok (opened_at q o)
 
     opened_so : (q : Primary) (o : Opens t m p q) → (next t m).own p ≡ underway_with s (accepted_as c x q (length o.rest))
     opened_so q o = seen_taken t m (primary q o.rest) o.told (own_sees c p) s p _ (opened_at q o) refl ∙ asked_so q o.rest (opened_asked q o)
@@ -412,14 +410,14 @@ module _ (t : Track) (w : Reached t) (p : ℕ) (within : p < 4) where
     -- a place that is released has a verdict, and so a request
     not_none : FreesOwn t m p → s.request ≡ own.none → ⊥
     not_none f e =
-        released_verdict x p ((request_taken t m (freeing_own p) f).asked ∙ ap asked.Taken (named_at t m (freeing_own p) f)) ((free_exactly c _ ((places_inside t w).own p within)).1 e)
+        released_verdict x p ((request_taken t m (freeing_own p) f).asked ∙ ap Ok (named_at t m (freeing_own p) f)) ((free_exactly c _ ((places_inside t w).own p within)).1 e)
 
     -- a block of the reply, by its note
     block_so : (n : ℕ) (h d : List ℕ) → RepliedTo t m p n h d → (next t m).own p ≡ own.answered (told_by (judge_of c x h d room).answer.note) s (header_of h) (length d)
     block_so n h d r =
         seen_alone t m (own_sees c p) s (exchange.block h d) refl r.up
         ∙ ap (λ (z : Bool). cond z (own.answered (told_by (judge_of c x h d room).answer.note) s (header_of h) (length d)) s)
-        (ap (λ (f : Found). found_at f p) ((of_reply_lem (header_of h)).1 r.of_it) ∙ eq-eqb p p refl)
+        (ap (λ (f : Option ℕ). found_at f p) ((of_reply_lem (header_of h)).1 r.of_it) ∙ eq-eqb p p refl)
 
     kept_so : (h d : List ℕ) → RepliedTo t m p 21 h d
         → ((next t m).own p ≡ own.answered own.kept s (header_of h) (length d)) × ((next t m).joined.replies p ≡ t.joined.replies p ++ d)
@@ -429,7 +427,7 @@ module _ (t : Track) (w : Reached t) (p : ℕ) (within : p < 4) where
           block_so 21 h d r ∙ ap (λ (z : Note). own.answered (told_by z) s (header_of h) (length d)) k,
           ap (λ (ks : List exchange.Call). (exchange.track c (exchange_track t room) ks).seen.replies p) (alone t m (exchange.block h d) refl r.up)
               ∙ ap (λ (z : Note). (exchange.if_kept z t.joined (exchange.joins x h t.joined d)).replies p) k
-              ∙ ap (λ (f : Found). (exchange.of_reply f (message_for x.incoming (header_of h)) (open_alike x.incoming (header_of h)) (free_incoming x.incoming) t.joined d).replies p)
+              ∙ ap (λ (f : Option ℕ). (exchange.of_reply f (message_for x.incoming (header_of h)) (open_alike x.incoming (header_of h)) (free_incoming x.incoming) t.joined d).replies p)
               ((of_reply_lem (header_of h)).1 r.of_it)
               ∙ anew_here t.joined.replies p (t.joined.replies p ++ d),
         )

@@ -1,4 +1,5 @@
 -- How our reply in an incoming place ends (`specs/Moves.antt`). Assumes nothing.
+use Rattle.std.specs.Prelude.{Ok}
 use Prim.Native.Nat.{ℕ, ◌<◌}
 use mathlib.Core.Path.{◌≡◌, refl, sym, ap, ◌∙◌, subst}
 use mathlib.Core.Bool.{Bool, true, false, cond, false≢true}
@@ -12,7 +13,6 @@ use Rattle.exchange.specs.Watching.{reply_from}
 use Rattle.exchange.specs.declared.Exchange.{Exchange}
 use Rattle.exchange.specs.declared.ReplyStage.{ReplyStage}
 use Rattle.exchange.specs.declared.ReplyStage.TheVariants.{NotOwed, Owed, OnItsWay, Sent, Failed}
-use Rattle.exchange.specs.declared.Asked.TheVariants as asked
 use Rattle.exchange.proofs.BeingSent.{request_sends}
 use Rattle.exchange.proofs.Replies.{reply_read, nothing_replied, reply_watched_on}
 use Rattle.exchange.proofs.Runs.{four_places, run_any}
@@ -92,7 +92,7 @@ module _ (t : Track) (w : Reached t) (p : ℕ) (within : p < 4) (m : Made) where
   lost_step a = either_sent failed (λ o. loses (record { told = a; of_it = o }))
 
   -- by what was asked for, where it took this place
-  took : (r : Request) → Tells t m (exchange.request r) → (answer_of (terms_in t) x r (lent t m)).answer.asked ≡ asked.Taken p → Goes (way_taken s r)
+  took : (r : Request) → Tells t m (exchange.request r) → (answer_of (terms_in t) x r (lent t m)).answer.asked ≡ Ok p → Goes (way_taken s r)
   took (primary q d) a e = same
   took (reply q f d) a e =
       answers

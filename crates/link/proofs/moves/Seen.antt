@@ -1,5 +1,6 @@
 -- What comes of a call, by what it tells the transactions: nothing, one thing, or a send that failed and the tick that it failed on.
 -- Assumes nothing.
+use Rattle.std.specs.Prelude.{Ok}
 use Prim.Native.Nat.{ℕ}
 use mathlib.Core.Path.{◌≡◌, refl, sym, ap, ◌∙◌, subst}
 use mathlib.Core.Bool.{Bool, true, false, cond, false≢true}
@@ -10,8 +11,6 @@ use Rattle.settings.specs.declared.terms.Terms.{Terms}
 use Rattle.exchange.specs.Request.{Request, primary, reply, freeing_own, freeing_incoming, refused_by, refused, reply_accepted, answer_of}
 use Rattle.exchange.specs.History as exchange
 use Rattle.exchange.specs.Watching.{taken_at, watch}
-use Rattle.exchange.specs.declared.Asked.{Asked}
-use Rattle.exchange.specs.declared.Asked.TheVariants as asked
 use Rattle.exchange.specs.declared.Exchange.{Exchange}
 use Rattle.exchange.proofs.Accepting.{not_taken}
 use Rattle.exchange.proofs.Cases.{by_request as by_asked}
@@ -28,6 +27,7 @@ use Rattle.link.proofs.inside.Transactions.{exchange_goes}
 use Rattle.link.proofs.inside.Places.{lent, goes}
 use Rattle.link.proofs.Accepted.{refused_calls}
 use Rattle.link.proofs.verdicts.Taken.{request_taken}
+use Rattle.exchange.specs.Asked.{Asked}
 
 -- ---- few calls of the transactions
 
@@ -148,12 +148,12 @@ module _ (t : Track) (m : Made) where
 module _ (t : Track) (m : Made) (r : Request) (a : Tells t m (exchange.request r)) where
   -- it took place p, as the transactions and the unit answer, or another one
   pub by_taken : {S : Type 0} (p : ℕ) (P : S → Type 0) (y s : S)
-      → ((answering t.link r (lent t m)).answer.asked ≡ asked.Taken p → (answered t m).answer.outcome ≡ outcome.Taken p → P y) → P s
+      → ((answering t.link r (lent t m)).answer.asked ≡ Ok p → (answered t m).answer.outcome ≡ outcome.Taken p → P y) → P s
       → P (cond (taken_at (answering t.link r (lent t m)).answer.asked p) y s)
   by_taken p P y s mine other =
       let w = request_taken t m r a in
       either (taken_at (answering t.link r (lent t m)).answer.asked p) (λ z. P (cond z y s))
-      (λ z. let e = eqb-true w.place p (sym (ap (λ (k : Asked). taken_at k p) w.asked) ∙ z) in mine (w.asked ∙ ap asked.Taken e) (w.outcome ∙ ap outcome.Taken e))
+      (λ z. let e = eqb-true w.place p (sym (ap (λ (k : Asked). taken_at k p) w.asked) ∙ z) in mine (w.asked ∙ ap Ok e) (w.outcome ∙ ap outcome.Taken e))
       (λ z. other)
 
   -- and so its onlooker sees it
@@ -172,10 +172,10 @@ Named (reply q f d) p = p ≡ q
 Named (freeing_own q) p = p ≡ q
 Named (freeing_incoming q) p = p ≡ q
 
-pub taken_named : (c : Terms) (x : Exchange) (room : List ℕ) (p : ℕ) (r : Request) → (answer_of c x r room).answer.asked ≡ asked.Taken p → Named r p
+pub taken_named : (c : Terms) (x : Exchange) (room : List ℕ) (p : ℕ) (r : Request) → (answer_of c x r room).answer.asked ≡ Ok p → Named r p
 unfolding refused refused_by reply_accepted
 taken_named c x room p =
-    by_asked c x room (λ r a. a.answer.asked ≡ asked.Taken p → Named r p) (λ r n e. absurd (not_taken e)) (λ q d i u e z. tt) (λ q f d u a b z. cc) (λ q e z. cc)
+    by_asked c x room (λ r a. a.answer.asked ≡ Ok p → Named r p) (λ r n e. absurd (not_taken e)) (λ q d i u e z. tt) (λ q f d u a b z. cc) (λ q e z. cc)
     (λ q e z. cc)
 
 pub named_at : (t : Track) (m : Made) (r : Request) (a : Tells t m (exchange.request r)) → Named r (request_taken t m r a).place

@@ -1,5 +1,6 @@
 -- Own places in use have different numbers, and so different system bytes: "distinct from .. those of all currently open transactions
 -- initiated from the same end" (E4 6.8.1). So a reply is for one of them alone. Assumes nothing.
+use Rattle.std.specs.Prelude.{Ok}
 use Prim.Native.Nat.{ℕ, ◌%◌, ◌≤◌, ◌<◌}
 use mathlib.Core.Path.{◌≡◌, refl, sym, ap, subst, ◌∙◌}
 use mathlib.Core.Bool.{true, false, false≢true}
@@ -22,7 +23,6 @@ use Rattle.exchange.proofs.Runs.{four_places}
 use Rattle.exchange.specs.declared.Exchange.{Exchange}
 use Rattle.exchange.specs.declared.OwnReading.{OwnReading}
 use Rattle.exchange.specs.declared.OwnReading.TheVariants as reading
-use Rattle.exchange.specs.declared.Asked.TheVariants as asked
 use Rattle.exchange.specs.declared.Primary.{Primary}
 use Rattle.link.specs.Reading.{own_of}
 use Rattle.link.specs.History.{Made, Track, terms_in, next}
@@ -124,7 +124,7 @@ module _ (t : Track) (w : Reached t) (m : Made) (g : Distinct t) where
       let new : NumberNew x (numbers_of x) (number_shown (own_of (next t m).link p)) =
       subst (λ (z : Exchange). NumberNew x (numbers_of x) (number_shown (own_reading z p))) (request_leads t m (primary r o.rest) o.told)
       (number_distinct (terms_in t) x (four_places x (sound_inside t w)) (numbers_of x) g.numbers r o.rest (lent t m) p
-      (y.asked ∙ ap asked.Taken place)) in
+      (y.asked ∙ ap Ok place)) in
       new.from_open q q_within (read_used t w q q_within other)
       (number_read (next t m) (reached_next t w m) p p_within used ∙ e ∙ sym (number_read t w q q_within other))
 

@@ -1,4 +1,5 @@
 -- The transaction numbers that the unit keeps are those that an onlooker keeps (`specs/Numbers.antt`). Assumes nothing.
+use Rattle.std.specs.Prelude.{Ok}
 use Prim.Native.Nat.{ℕ}
 use mathlib.Core.Path.{◌≡◌, refl, sym, ap, ◌∙◌, subst}
 use mathlib.Core.Bool.{true, false≢true}
@@ -11,8 +12,6 @@ use Rattle.exchange.specs.Numbers.{number_shown, NumbersSeen, latest_seen, last_
 use Rattle.exchange.specs.History as exchange
 use Rattle.exchange.specs.declared.OwnReading.{OwnReading}
 use Rattle.exchange.specs.declared.Exchange.{Exchange}
-use Rattle.exchange.specs.declared.Asked.{Asked}
-use Rattle.exchange.specs.declared.Asked.TheVariants as asked
 use Rattle.exchange.proofs.BeingSent.{sending_ends}
 use Rattle.exchange.proofs.Numbering.{none_started, request_starts, stays_on, numbers_kept_on, numbers_fresh, number_distinct as number_new}
 use Rattle.exchange.proofs.Latest.{two_kept}
@@ -31,6 +30,7 @@ use Rattle.link.proofs.inside.Reached.{reached_next, start, reached_start}
 use Rattle.link.proofs.inside.Places.{lent, goes, sound_inside}
 use Rattle.link.proofs.device.Told.{few_told, told_exactly}
 use Rattle.link.proofs.verdicts.Taken.{request_taken, request_leads}
+use Rattle.exchange.specs.Asked.{Asked}
 
 -- ---- one call of the unit
 
@@ -92,7 +92,7 @@ module _ (t : Track) (sound : Sound t.link.exchange) (s : NumbersSeen) (w : Numb
     abbrev Asks : Left → Type 0
     Asks l = Keeps (λ own. last_of l.answer.outcome r own s.last) (after (unless_refused l.answer.outcome (exchange.request r ∷ [])))
 
-    taken : (p : ℕ) → (answering t.link r room).answer.asked ≡ asked.Taken p → Keeps (λ own. last_of (outcome.Taken p) r own s.last) (after (exchange.request r ∷ []))
+    taken : (p : ℕ) → (answering t.link r room).answer.asked ≡ Ok p → Keeps (λ own. last_of (outcome.Taken p) r own s.last) (after (exchange.request r ∷ []))
     unfolding exchange.track
     taken p e =
         let z = (answering t.link r room).answer.exchange in
@@ -140,4 +140,4 @@ number_distinct t r fits m p q o =
     let same : y.place ≡ p = let e = sym y.outcome ∙ o.place in cc in
     subst (λ (z : Exchange). NumberNew x (numbers_seen t r) (number_shown (own_reading z p))) (request_leads t m (primary q o.rest) o.told)
     (number_new (terms_in t) x (four_places x (sound_inside t r)) (numbers_seen t r) (numbers_kept t r fits) q o.rest (lent t m) p
-    (y.asked ∙ ap asked.Taken same))
+    (y.asked ∙ ap Ok same))

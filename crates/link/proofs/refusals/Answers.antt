@@ -1,4 +1,5 @@
 -- Which place a call answers, and what a release has no part in (`specs/Refusals.antt`). Assumes nothing.
+use Rattle.std.specs.Prelude.{Ok}
 use Prim.Native.Nat.{ℕ}
 use mathlib.Core.Path.{◌≡◌, refl, sym, ap, ◌∙◌}
 use mathlib.Core.Bool.{true, false, not, false≢true}
@@ -7,7 +8,6 @@ use Rattle.settings.specs.declared.terms.Terms.{Terms}
 use Rattle.exchange.specs.Request.{Request, primary, reply, freeing_own, freeing_incoming, answer_of}
 use Rattle.exchange.specs.Rules.{Fours}
 use Rattle.exchange.specs.declared.Exchange.{Exchange}
-use Rattle.exchange.specs.declared.Asked.TheVariants.{Taken}
 use Rattle.exchange.proofs.Accepting.{accepted_opens, accepted_replies, accepted_releases}
 use Rattle.exchange.proofs.Releases.{lent_exactly}
 use Rattle.link.specs.Run.{stepped, byte_step, byte_stepped, tick_step, drained_step}
@@ -17,7 +17,7 @@ use Rattle.link.specs.declared.Link.{Link}
 use Rattle.link.proofs.Cases.{by_gate, by_byte, by_request}
 
 -- the transactions answer it so
-about : (c : Terms) (x : Exchange) (r : Request) (room : List ℕ) → Fours x → (p : ℕ) → (answer_of c x r room).answer.asked ≡ Taken p → About x r p
+about : (c : Terms) (x : Exchange) (r : Request) (room : List ℕ) → Fours x → (p : ℕ) → (answer_of c x r room).answer.asked ≡ Ok p → About x r p
 about c x (primary q d) room four p e = (accepted_opens c x q d room four p e).lowest
 about c x (reply k f d) room four p e = (accepted_replies c x k f d room p e).same
 about c x (freeing_own k) room four p e = (accepted_releases.own c x k room p e).same

@@ -1,4 +1,5 @@
 -- What a call that is not refused leaves of the room (`specs/Refusals.antt`). Assumes nothing.
+use Rattle.std.specs.Prelude.{Option, Some, None, Err}
 use Prim.Native.Nat.{ℕ, ◌<◌}
 use mathlib.Core.Path.{◌≡◌, refl, sym, ap, subst, ◌∙◌}
 use mathlib.Core.Bool.{Bool, true, false, false≢true}
@@ -35,8 +36,6 @@ use Rattle.place.specs.declared.Fate.TheVariants as fate
 use Rattle.table.specs.Own.{reply_for}
 use Rattle.table.specs.Incoming.{message_for, open_alike}
 use Rattle.table.proofs.Finding.{reply_lowest, free_incoming_lowest, message_lowest, open_alike_lowest}
-use Rattle.table.specs.declared.Found.{Found}
-use Rattle.table.specs.declared.Found.TheVariants.{At, Nowhere}
 use Rattle.exchange.specs.Note.{note_by as fate_note, note_number as block_note}
 use Rattle.exchange.specs.Exchange.{own_place, incoming_place, saved_now}
 use Rattle.exchange.specs.Judge.{thrown, keep_by, reply_block, message_block, begins_at, judge_of}
@@ -51,7 +50,6 @@ use Rattle.exchange.proofs.Cases.{Thrown, stray, no_place, too_long_lem, empty, 
 use Rattle.exchange.specs.declared.Note.{Note}
 use Rattle.exchange.specs.declared.Note.TheVariants.{Kept, Misrouted, Duplicate, Stray, NoPlace, TooLong, Empty}
 use Rattle.exchange.specs.declared.Exchange.{Exchange}
-use Rattle.exchange.specs.declared.Asked.TheVariants as asked
 use Rattle.link.specs.Answer.{outcome_number, note_number, note_by}
 use Rattle.link.specs.Run.{Left, has_next, Telling, telling, hears, hearing, byte_stepped, byte_step, tick_step}
 use Rattle.link.specs.History.{Call, byte, tick, drained, request, step_in}
@@ -66,20 +64,20 @@ use Rattle.link.proofs.refusals.Rows.{behind}
 
 -- the area that was found for a block
 data AreaFound (x : Exchange) (b : Header) : Message → Type 0 where
-  for_reply : (p : ℕ) → reply_for x.own b ≡ At p → AreaFound x b (message.Reply p)
-  for_message : (p : ℕ) → reply_for x.own b ≡ Nowhere → message_for x.incoming b ≡ At p → AreaFound x b (message.Incoming p)
+  for_reply : (p : ℕ) → reply_for x.own b ≡ Some p → AreaFound x b (message.Reply p)
+  for_message : (p : ℕ) → reply_for x.own b ≡ None → message_for x.incoming b ≡ Some p → AreaFound x b (message.Incoming p)
   for_primary :
-      (p : ℕ) (gone : Bool) → reply_for x.own b ≡ Nowhere → message_for x.incoming b ≡ Nowhere → Takes x b p gone → AreaFound x b (message.Incoming p)
+      (p : ℕ) (gone : Bool) → reply_for x.own b ≡ None → message_for x.incoming b ≡ None → Takes x b p gone → AreaFound x b (message.Incoming p)
 
 -- it is the one that the rules name
 module _ (x : Exchange) (b : Header) (four : Fours x) where
-  no_reply : reply_for x.own b ≡ Nowhere → ReplyHere x b → ⊥
+  no_reply : reply_for x.own b ≡ None → ReplyHere x b → ⊥
   no_reply e w = false≢true (sym (ap found e) ∙ (reply_here x four b).1 w)
 
-  no_message : message_for x.incoming b ≡ Nowhere → MessageHere x b → ⊥
+  no_message : message_for x.incoming b ≡ None → MessageHere x b → ⊥
   no_message e w = false≢true (sym (ap found e) ∙ (message_here x four b).1 w)
 
-  no_alike : open_alike x.incoming b ≡ Nowhere → AlikeHere x b → ⊥
+  no_alike : open_alike x.incoming b ≡ None → AlikeHere x b → ⊥
   no_alike e w = false≢true (sym (ap found e) ∙ (alike_here x four b).1 w)
 
   area_of : {m : Message} → AreaFound x b m → AreaOf x b m
@@ -116,11 +114,11 @@ not_thrown Empty empty e = omega arith
 
 -- by what the block was found to be of
 module _ (x : Exchange) (b : Header) (d room : List ℕ) where
-  before_reply : (p : ℕ) → reply_for x.own b ≡ At p → bytes_before x b ≡ (own_kept (own_place x p)).length
-  before_reply p r = ap (λ (f : Found). reply_bytes f x.own x.incoming b) r
+  before_reply : (p : ℕ) → reply_for x.own b ≡ Some p → bytes_before x b ≡ (own_kept (own_place x p)).length
+  before_reply p r = ap (λ (f : Option ℕ). reply_bytes f x.own x.incoming b) r
 
-  before_message : (f : Found) → reply_for x.own b ≡ Nowhere → message_for x.incoming b ≡ f → bytes_before x b ≡ message_bytes f x.incoming
-  before_message f r m = ap (λ (g : Found). reply_bytes g x.own x.incoming b) r ∙ ap (λ (g : Found). message_bytes g x.incoming) m
+  before_message : (f : Option ℕ) → reply_for x.own b ≡ None → message_for x.incoming b ≡ f → bytes_before x b ≡ message_bytes f x.incoming
+  before_message f r m = ap (λ (g : Option ℕ). reply_bytes g x.own x.incoming b) r ∙ ap (λ (g : Option ℕ). message_bytes g x.incoming) m
 
   there : (m : Message) (have : ℕ) (after : List ℕ) → AreaFound x b m → bytes_before x b ≡ have → after ≡ kept_in room m have d → KeptThere x b d room after
   there m have after a e k = record { area = m; there = a; kept = k ∙ ap (λ (n : ℕ). kept_in room m n d) (sym e) }
@@ -136,10 +134,10 @@ judged_kept c x h d room =
     there x b d room (message.Reply p) (own_kept (own_place x p)).length _ (for_reply p r) (before_reply x b d room p r)
     (kept_by (fate_of b (own_kept (own_place x p)).length (length d)) room (message.Reply p) (own_kept (own_place x p)).length d e))
     (λ p q r m e.
-    there x b d room (message.Incoming p) (incoming_length (incoming_place x p)) _ (for_message p r m) (before_message x b d room (At p) r m)
+    there x b d room (message.Incoming p) (incoming_length (incoming_place x p)) _ (for_message p r m) (before_message x b d room (Some p) r m)
     (kept_by (fate_of b (incoming_length (incoming_place x p)) (length d)) room (message.Incoming p) (incoming_length (incoming_place x p)) d e))
     (λ p gone f q r m o k s t e.
-    there x b d room (message.Incoming p) 0 _ (for_primary p gone r m t) (before_message x b d room Nowhere r m) refl)
+    there x b d room (message.Incoming p) 0 _ (for_primary p gone r m t) (before_message x b d room None r m) refl)
     (λ n t r m e. absurd (not_thrown n t e))
   where
     b : Header
@@ -260,5 +258,5 @@ module _ (u : Link) (room o : List ℕ) where
   fills_behind drained = λ e. refl
   fills_behind (request r) =
       let fills = accepted_fills u.settings.terms u.exchange r room in
-      by_answer u r room o (λ l. outcome_number l.answer.outcome ≡ 0 → FillsBy r room l.room) (λ n e z. absurd (refused_number (asked.Refused n) n refl z))
+      by_answer u r room o (λ l. outcome_number l.answer.outcome ≡ 0 → FillsBy r room l.room) (λ n e z. absurd (refused_number (Err n) n refl z))
       (λ p e l z. fills p e) (λ p e l z. subst (FillsBy r room) (unlent_room u r room l) (fills p e)) (lends r) refl

@@ -1,4 +1,5 @@
 -- Which calls are refused, and what a refused call leaves (`specs/Refusals.antt`). Assumes nothing.
+use Rattle.std.specs.Prelude.{Ok, Err}
 use Prim.Native.Nat.{ℕ}
 use mathlib.Core.Path.{◌≡◌, refl, sym, ap, subst, ◌∙◌}
 use mathlib.Core.Bool.{Bool, true, false, cond, true≢false}
@@ -24,7 +25,6 @@ use Rattle.link.specs.declared.Refusal.{Refusal}
 use Rattle.link.specs.declared.Refusal.TheVariants as refusal
 use Rattle.link.specs.declared.Outcome.{Outcome}
 use Rattle.link.specs.declared.Outcome.TheVariants as outcome
-use Rattle.link.specs.declared.Gate.TheVariants as gate
 use Rattle.link.specs.declared.Link.{Link}
 use Rattle.link.proofs.Cases.{by_byte, by_answer, answering, behind_by}
 use Rattle.link.proofs.refusals.Ranges.{link_fits}
@@ -56,7 +56,7 @@ module _ (u : Link) (room o : List ℕ) (k : Call) (P : Left → Type 0) where
       chosen (λ g. P (through g u room o l)) (eqb (length room) 36864) _ _
       (λ r.
       let right : RoomWrong k room → ⊥ = λ w. w.wrong (eqb-true _ _ r) in
-      judged (link_in_range u) (link_fits u) (λ t. P (through (cond t gate.Open (gate.Shut refusal.State)) u room o l))
+      judged (link_in_range u) (link_fits u) (λ t. P (through (cond t (Ok tt) (Err refusal.State)) u room o l))
       (λ f. rows.rest (record { not_short = long; not_wrong = right; fits = f })) (rows.row_3 long right))
       (λ r. rows.row_2 long (record { lent = lent; wrong = eqb-false _ _ r })))
 

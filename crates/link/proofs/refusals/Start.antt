@@ -1,5 +1,6 @@
 -- A start is refused exactly if a setting is out of its range, and what it hands back then is of no use (`specs/Refusals.antt`).
 -- Assumes nothing.
+use Rattle.std.specs.Prelude.{Option, Some, None}
 use Prim.Native.Nat.{ℕ, zero, suc}
 use mathlib.Core.Path.{◌≡◌, refl, sym, ap, subst}
 use mathlib.Core.Bool.{Bool, true, false, cond, false≢true}
@@ -14,8 +15,6 @@ use Rattle.settings.specs.Terms.{message_panel_in_range, terms_of, agreed_of}
 use Rattle.settings.specs.Theorems.{Fits as PanelFits, FitsTerms}
 use Rattle.settings.proofs.Taking.{fits, taken_in_range}
 use Rattle.settings.proofs.Agreeing.{fits_terms, terms_in_range_lem}
-use Rattle.settings.specs.declared.limits.Taken.TheVariants as taken
-use Rattle.settings.specs.declared.terms.Agreed.TheVariants as agreed
 use Rattle.place.specs.Own.{fresh_own}
 use Rattle.place.specs.Incoming.{fresh_incoming}
 use Rattle.exchange.specs.Reading.{own_reading, incoming_reading}
@@ -29,8 +28,6 @@ use Rattle.link.specs.State.{fresh_link, refused_as, link_in_range, start_by, st
 use Rattle.link.specs.Refusals.{Fits, SetupFits, StartRuled, start_4, start_0, in_ticks, Started, NotStarted, StartExactly}
 use Rattle.link.specs.declared.Setup.{Setup}
 use Rattle.link.specs.declared.Settings.{Settings}
-use Rattle.link.specs.declared.Ranged.{Ranged}
-use Rattle.link.specs.declared.Ranged.TheVariants.{Settings as Kept, OutOfRange}
 use Rattle.link.specs.declared.Answer.{Answer}
 use Rattle.link.specs.declared.Refusal.TheVariants as refusal
 use Rattle.link.specs.declared.Outcome.TheVariants as outcome
@@ -69,15 +66,15 @@ terms_part s f = record {
 
 -- ---- the start
 
-by_ranged : (s : Setup) (P : Ranged → Type 0) → (SetupFits s → P (Kept (in_ticks s))) → ((SetupFits s → ⊥) → P OutOfRange) → P (ranged_of s)
+by_ranged : (s : Setup) (P : Option Settings → Type 0) → (SetupFits s → P (Some (in_ticks s))) → ((SetupFits s → ⊥) → P None) → P (ranged_of s)
 unfolding ranged_of taken_of agreed_of
 by_ranged s P accept refuse =
     chosen P (ltb 31 s.rty) _ _ (λ e. refuse (λ f. absurd (omega (arith, f.rty_most, ltb-true 31 s.rty e))))
     (λ e.
-    judged (panel_in_range (panel_of s)) (fits (panel_of s)) (λ t. P (taken_by (cond t (taken.Limits (limits_of (panel_of s))) taken.OutOfRange) s))
+    judged (panel_in_range (panel_of s)) (fits (panel_of s)) (λ t. P (taken_by (cond t (Some (limits_of (panel_of s))) None) s))
     (λ l.
     judged (message_panel_in_range (messages_of s)) (fits_terms (messages_of s))
-    (λ t. P (agreed_by (cond t (agreed.Terms (terms_of (messages_of s))) agreed.OutOfRange) (limits_of (panel_of s))))
+    (λ t. P (agreed_by (cond t (Some (terms_of (messages_of s))) None) (limits_of (panel_of s))))
     (λ t. accept (together s l t)) (λ n. refuse (λ f. n (terms_part s f))))
     (λ n. refuse (λ f. n (line_part s f))))
 
@@ -86,20 +83,20 @@ pub record StartedAs (s : Setup) (z : Settings) : Type 0 where
   pub fits : SetupFits s
   pub in_ticks_lem : z ≡ in_ticks s
 
-abbrev kept : Ranged → Settings
-kept (Kept z) = z
-kept OutOfRange = no_settings
+abbrev kept : Option Settings → Settings
+kept (Some z) = z
+kept None = no_settings
 
-abbrev is_kept : Ranged → Bool
-is_kept (Kept z) = true
-is_kept OutOfRange = false
+abbrev is_kept : Option Settings → Bool
+is_kept (Some z) = true
+is_kept None = false
 
-pub started_as : (s : Setup) (z : Settings) → ranged_of s ≡ Kept z → StartedAs s z
+pub started_as : (s : Setup) (z : Settings) → ranged_of s ≡ Some z → StartedAs s z
 started_as s z =
-    by_ranged s (λ k. k ≡ Kept z → StartedAs s z) (λ f e. record { fits = f; in_ticks_lem = sym (ap kept e) }) (λ n e. absurd (false≢true (ap is_kept e)))
+    by_ranged s (λ k. k ≡ Some z → StartedAs s z) (λ f e. record { fits = f; in_ticks_lem = sym (ap kept e) }) (λ n e. absurd (false≢true (ap is_kept e)))
 
-pub ranged_as : (s : Setup) → SetupFits s → ranged_of s ≡ Kept (in_ticks s)
-ranged_as s fits = by_ranged s (λ k. k ≡ Kept (in_ticks s)) (λ f. refl) (λ n. absurd (n fits))
+pub ranged_as : (s : Setup) → SetupFits s → ranged_of s ≡ Some (in_ticks s)
+ranged_as s fits = by_ranged s (λ k. k ≡ Some (in_ticks s)) (λ f. refl) (λ n. absurd (n fits))
 
 pub settings_sound : (s : Setup) → SetupFits s → settings_in_range (in_ticks s) ≡ true
 unfolding settings_in_range
@@ -107,7 +104,7 @@ settings_sound s f = simp ((taken_in_range (panel_of s)).in_range (line_part s f
 
 -- what a start answers
 by_start :
-    (s : Setup) (P : Answer → Type 0) → (SetupFits s → P (start_by (Kept (in_ticks s)) s.last)) → ((SetupFits s → ⊥) → P (start_by OutOfRange s.last))
+    (s : Setup) (P : Answer → Type 0) → (SetupFits s → P (start_by (Some (in_ticks s)) s.last)) → ((SetupFits s → ⊥) → P (start_by None s.last))
     → P (start_of s)
 by_start s P = by_ranged s (λ k. P (start_by k s.last))
 

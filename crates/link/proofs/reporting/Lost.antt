@@ -1,5 +1,6 @@
 -- None is lost: each cause has started a report, or its report waits, or was dropped and counted (`specs/Reporting.antt`: NoneLost). What is
 -- counted at the door, by notes, verdicts and what is being sent, is what the onlooker of the reports counts. Assumes nothing.
+use Rattle.std.specs.Prelude.{Ok, Err}
 use Prim.Native.Nat.{ℕ, ◌+◌, ◌≤◌, ◌<◌}
 use mathlib.Core.Path.{◌≡◌, refl, sym, ap, subst, ◌∙◌}
 use mathlib.Core.Bool.{Bool, true, false, cond, ◌||◌, true≢false}
@@ -27,8 +28,6 @@ use Rattle.exchange.specs.Watching.{watch}
 use Rattle.exchange.specs.declared.OwnReading.{OwnReading}
 use Rattle.exchange.specs.declared.Sending.{Sending}
 use Rattle.exchange.specs.declared.Sending.TheVariants as sending
-use Rattle.exchange.specs.declared.Asked.{Asked}
-use Rattle.exchange.specs.declared.Asked.TheVariants.{Taken, Refused}
 use Rattle.exchange.specs.declared.Outbox.{Outbox}
 use Rattle.exchange.specs.declared.Exchange.{Exchange}
 use Rattle.exchange.proofs.Numbering.{same_gets}
@@ -53,6 +52,7 @@ use Rattle.link.proofs.device.Told.{each_among, few_told}
 use Rattle.link.proofs.moves.Notes.{up_noted, rose}
 use Rattle.link.proofs.moves.Flags.{is_block}
 use Rattle.link.proofs.reporting.Kept.{kept_next, kept_inside}
+use Rattle.exchange.specs.Asked.{Asked}
 
 -- ---- the starts
 
@@ -83,20 +83,20 @@ turned_starts z last n b k w (begun f m d e i) =
 
 -- a request starts none
 asked_starts : (r : Request) (a : Asked) (z : Sending) → started z (sending_after r a z) ≡ 0
-asked_starts (primary q d) (Taken p) z = refl
-asked_starts (reply k f d) (Taken p) z = refl
-asked_starts (freeing_own k) (Taken p) z = same_started z z refl
-asked_starts (freeing_incoming k) (Taken p) z = same_started z z refl
-asked_starts r (Refused n) z = same_started z z refl
+asked_starts (primary q d) (Ok p) z = refl
+asked_starts (reply k f d) (Ok p) z = refl
+asked_starts (freeing_own k) (Ok p) z = same_started z z refl
+asked_starts (freeing_incoming k) (Ok p) z = same_started z z refl
+asked_starts r (Err n) z = same_started z z refl
 
 -- and the onlooker counts none
 asked_same : (c : Terms) (after : ℕ → OwnReading) (r : Request) (a : Asked) (s : Reporter)
     → ((reporter_asked c after r a s).starts ≡ s.starts) × ((reporter_asked c after r a s).causes ≡ s.causes)
-asked_same c after (primary q d) (Taken p) s = (refl, refl)
-asked_same c after (reply k f d) (Taken p) s = (refl, refl)
-asked_same c after (freeing_own k) (Taken p) s = (refl, refl)
-asked_same c after (freeing_incoming k) (Taken p) s = (refl, refl)
-asked_same c after r (Refused n) s = (refl, refl)
+asked_same c after (primary q d) (Ok p) s = (refl, refl)
+asked_same c after (reply k f d) (Ok p) s = (refl, refl)
+asked_same c after (freeing_own k) (Ok p) s = (refl, refl)
+asked_same c after (freeing_incoming k) (Ok p) s = (refl, refl)
+asked_same c after r (Err n) s = (refl, refl)
 
 -- ---- one call
 

@@ -1,5 +1,6 @@
 -- What ticks alone leave of a unit that sends no message of a caller: its places are those that ticks leave of its transactions, even if a
 -- report is sent meanwhile, or fails, for a report has no place. Assumes nothing.
+use Rattle.std.specs.Prelude.{Result}
 use Prim.Native.Nat.{ℕ, zero, suc, ◌≤◌}
 use mathlib.Core.Path.{◌≡◌, refl, sym, ap, subst, ◌∙◌}
 use mathlib.Core.Bool.{true}
@@ -29,7 +30,6 @@ use Rattle.link.specs.History.{tick, Track, track, terms_in}
 use Rattle.link.specs.Inside.{Reached}
 use Rattle.link.specs.SameMessage.{End, end_of, waits}
 use Rattle.link.specs.declared.Settings.{Settings}
-use Rattle.link.specs.declared.Gate.{Gate}
 use Rattle.link.specs.declared.Link.{Link}
 use Rattle.link.proofs.inside.Courier.{heard_as}
 use Rattle.link.proofs.inside.Reached.{reached_more, settings_stay}
@@ -38,6 +38,7 @@ use Rattle.link.proofs.refusals.Room.{size_behind}
 use Rattle.link.proofs.same_message.Calls.{opens}
 use Rattle.link.proofs.same_message.Reaches.{Reaches, reaches_itself, reaches_waits}
 use Rattle.link.proofs.same_message.Resting.{tick_so}
+use Rattle.link.specs.declared.Refusal.{Refusal}
 
 -- ---- a tick
 
@@ -85,7 +86,7 @@ passed_alike c x y g = record {
 -- a unit in range is ticked
 goes_through : (u : Link) (room o : List ℕ) → length room ≡ 36864 → 257 ≤ length o → link_in_range u ≡ true
     → tick_call u room o ≡ stepped true u (tick_step u) room o
-goes_through u room o whole long fits = ap (λ (g : Gate). through g u room o (stepped true u (tick_step u) room o)) (opens u room o whole long fits)
+goes_through u room o whole long fits = ap (λ (g : Result Unit Refusal). through g u room o (stepped true u (tick_step u) room o)) (opens u room o whole long fits)
 
 module _ (t : Track) (w : Reached t) (room o : List ℕ) (whole : length room ≡ 36864) (long : 257 ≤ length o)
     (so : NoneOrReport t.link.exchange.sending) where

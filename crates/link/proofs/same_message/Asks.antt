@@ -1,4 +1,5 @@
 -- A request that the transactions take: its message lies in the send area, and its first block is asked for at once. Assumes nothing.
+use Rattle.std.specs.Prelude.{Ok}
 use Prim.Native.Nat.{ℕ, ◌≤◌}
 use mathlib.Core.Path.{◌≡◌, refl, sym, ap, subst, ◌∙◌}
 use mathlib.Core.Bool.{true, false}
@@ -20,8 +21,6 @@ use Rattle.exchange.specs.Request.{Requesting, Request, answer_of, lends}
 use Rattle.exchange.specs.Reports.{same_message}
 use Rattle.exchange.specs.BeingSent.{Starts}
 use Rattle.exchange.specs.declared.Exchange.{Exchange}
-use Rattle.exchange.specs.declared.Asked.{Asked}
-use Rattle.exchange.specs.declared.Asked.TheVariants as asked
 use Rattle.exchange.proofs.BeingSent.{request_sends}
 use Rattle.link.specs.Courier.{carried, courier_by}
 use Rattle.link.specs.Run.{Left, untold, course}
@@ -34,6 +33,7 @@ use Rattle.link.specs.declared.Outcome.TheVariants.{Done, Taken, Refused}
 use Rattle.link.specs.declared.Note.TheVariants as note
 use Rattle.link.proofs.Cases.{answering, by_request}
 use Rattle.link.proofs.same_message.Calls.{said, course_said, unit, Sound, goes_through}
+use Rattle.exchange.specs.Asked.{Asked}
 
 -- ---- the unit
 
@@ -50,16 +50,16 @@ IsTaken (Refused r) = ⊥
 
 -- what the unit takes, its transactions took
 pub taken_inside : (u : Link) (r : Request) (room o : List ℕ) (p : ℕ) → (request_call u r room o).answer.outcome ≡ Taken p
-    → (answering u r room).answer.asked ≡ asked.Taken p
+    → (answering u r room).answer.asked ≡ Ok p
 taken_inside u r room o p =
-    by_request u r room o (λ (l : Left). l.answer.outcome ≡ Taken p → (answering u r room).answer.asked ≡ asked.Taken p)
-    (λ n e z. absurd (not_refused z)) (λ k e l z. e ∙ ap asked.Taken (ap place_of z)) (λ k e l z. e ∙ ap asked.Taken (ap place_of z)) (λ n z. absurd (not_refused z))
+    by_request u r room o (λ (l : Left). l.answer.outcome ≡ Taken p → (answering u r room).answer.asked ≡ Ok p)
+    (λ n e z. absurd (not_refused z)) (λ k e l z. e ∙ ap Ok (ap place_of z)) (λ k e l z. e ∙ ap Ok (ap place_of z)) (λ n z. absurd (not_refused z))
   where
     not_refused : {k : Outcome} → k ≡ Taken p → IsTaken k
     not_refused e = subst IsTaken (sym e) tt
 
 module _ (s : Settings) (x : Exchange) (k : ℕ) (room rs o : List ℕ) (long : 257 ≤ length o) (g : Sound s x k room)
-    (r : Request) (lent : lends r ≡ true) (p : ℕ) (taken : (answer_of s.terms x r room).answer.asked ≡ asked.Taken p) where
+    (r : Request) (lent : lends r ≡ true) (p : ℕ) (taken : (answer_of s.terms x r room).answer.asked ≡ Ok p) where
   abbrev answer : Requesting
   answer = answer_of s.terms x r room
 

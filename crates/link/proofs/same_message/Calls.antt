@@ -1,4 +1,5 @@
 -- A call on a unit whose numbers are in their ranges goes through, and says what its course puts out. Assumes nothing.
+use Rattle.std.specs.Prelude.{Some, None, Result, Ok}
 use Prim.Native.Nat.{ℕ, zero, suc, ◌+◌, ◌≤◌, ◌<◌}
 use mathlib.Core.Path.{◌≡◌, refl, sym, ap, ◌∙◌}
 use mathlib.Core.Bool.{Bool, true, false, cond}
@@ -13,7 +14,6 @@ use Rattle.wire.specs.Lent.{on_front}
 use Rattle.settings.specs.Panel.{between}
 use Rattle.settings.specs.Timer.{ticked as ticked'}
 use Rattle.settings.specs.declared.panel.Ticks.{Ticks}
-use Rattle.settings.specs.declared.timer.Timer.TheVariants.{RunsOut, Runs}
 use Rattle.settings.specs.declared.terms.Terms.{Terms}
 use Rattle.settings.specs.declared.limits.Limits.{Limits}
 use Rattle.line.specs.Line.{line_at, goes, stays, eot_tick, ack_tick, length_tick, body_tick, Heard, heard, byte_of, tick_of as line_tick, settle_idle, settle_of}
@@ -46,9 +46,8 @@ use Rattle.link.specs.declared.Outcome.{Outcome}
 use Rattle.link.specs.declared.Outcome.TheVariants.{Done}
 use Rattle.link.specs.declared.Note.TheVariants as note
 use Rattle.link.specs.declared.Settings.{Settings}
-use Rattle.link.specs.declared.Gate.{Gate}
-use Rattle.link.specs.declared.Gate.TheVariants.{Open}
 use Rattle.link.specs.declared.Link.{Link}
+use Rattle.link.specs.declared.Refusal.{Refusal}
 
 -- ---- what a call says
 
@@ -88,7 +87,7 @@ abbrev pub unit : Settings → Phase → List ℕ → Exchange → ℕ → Link
 unit s p rs x k = record { settings = s; line = line_at false p; received = rs; exchange = x; block = k }
 
 -- one that 1, 2 and 3 do not refuse
-pub opens : (u : Link) (room o : List ℕ) → length room ≡ 36864 → 257 ≤ length o → link_in_range u ≡ true → gate_of u (length room) (length o) ≡ Open
+pub opens : (u : Link) (room o : List ℕ) → length room ≡ 36864 → 257 ≤ length o → link_in_range u ≡ true → gate_of u (length room) (length o) ≡ (Ok tt)
 unfolding gate_of output_short room_fits
 opens u room o whole long ranged = simp (le-ltb (length o) 257 long, eq-eqb (length room) 36864 whole, ranged)
 
@@ -104,13 +103,13 @@ pub record Sound (s : Settings) (x : Exchange) (k : ℕ) (room : List ℕ) : Typ
   pub t2 : s.limits.t2.0 ≤ 250
 
 module _ (s : Settings) (x : Exchange) (k : ℕ) (room o : List ℕ) (long : 257 ≤ length o) (g : Sound s x k room) where
-  open_gate : (p : Phase) (rs : List ℕ) → phase_in_range p ≡ true → gate_of (unit s p rs x k) (length room) (length o) ≡ Open
+  open_gate : (p : Phase) (rs : List ℕ) → phase_in_range p ≡ true → gate_of (unit s p rs x k) (length room) (length o) ≡ (Ok tt)
   unfolding link_in_range between
   open_gate p rs e =
       opens (unit s p rs x k) room o g.whole long (simp (le-leb 1 k g.least, le-leb k most_blocks g.most, g.settings, g.exchange, e))
 
   pub goes_through : (p : Phase) (rs : List ℕ) (l : Left) → phase_in_range p ≡ true → gated (unit s p rs x k) room o l ≡ l
-  goes_through p rs l e = ap (λ (g : Gate). through g (unit s p rs x k) room o l) (open_gate p rs e)
+  goes_through p rs l e = ap (λ (g : Result Unit Refusal). through g (unit s p rs x k) room o l) (open_gate p rs e)
 
   -- a byte, by what the line makes of it
   pub says : (p : Phase) (rs : List ℕ) (b : ℕ) (h : Heard) → phase_in_range p ≡ true → byte_of s.limits (line_at false p) b rs ≡ h
@@ -192,9 +191,9 @@ module _ (s : Settings) (x : Exchange) (k : ℕ) (room o : List ℕ) (long : 257
 -- ---- at each phase
 
 -- a timer that does not run out
-runs : (limit : Ticks) (timer : ℕ) → timer + 1 ≤ limit.0 → ticked' limit timer ≡ Runs (suc timer)
+runs : (limit : Ticks) (timer : ℕ) → timer + 1 ≤ limit.0 → ticked' limit timer ≡ Some (suc timer)
 unfolding ticked'
-runs limit timer less = ap (λ (t : Bool). cond t RunsOut (Runs (timer + 1))) (le-ltb limit.0 (timer + 1) less) ∙ ap Runs (add-one timer)
+runs limit timer less = ap (λ (t : Bool). cond t None (Some (timer + 1))) (le-ltb limit.0 (timer + 1) less) ∙ ap Some (add-one timer)
 
 module _ (c : Limits) (n : ℕ) where
   pub idle_counts : Counts c (λ i. Idle) n

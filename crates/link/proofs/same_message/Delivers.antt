@@ -1,4 +1,5 @@
 -- A primary that is accepted at one end is the same message at the other (`specs/SameMessage.antt`). Assumes nothing.
+use Rattle.std.specs.Prelude.{Ok}
 use Prim.Native.Nat.{ℕ, suc, ◌%◌, ◌≤◌, ◌<◌}
 use mathlib.Core.Path.{◌≡◌, refl, sym, ap, subst, ◌∙◌}
 use mathlib.Core.Bool.{Bool, true, false, cond, not, false≢true}
@@ -62,7 +63,6 @@ use Rattle.exchange.specs.declared.IncomingReading.{IncomingReading}
 use Rattle.exchange.specs.declared.IncomingReading.TheVariants as incoming
 use Rattle.exchange.specs.declared.ReplyStage.{ReplyStage}
 use Rattle.exchange.specs.declared.ReplyStage.TheVariants as reply
-use Rattle.exchange.specs.declared.Asked.TheVariants as asked
 use Rattle.exchange.specs.declared.Primary.{Primary}
 use Rattle.exchange.specs.declared.Outgoing.TheVariants.{Message}
 use Rattle.link.specs.Run.{putting_out}
@@ -93,7 +93,7 @@ record Sendable (q : Primary) (d : List ℕ) : Type 0 where
   pub odd : q.function % 2 ≡ 1
   pub short : length d ≤ message_limit
 
-sendable : (c : Terms) (x : Exchange) (q : Primary) (d room : List ℕ) (p : ℕ) → Fours x → (answer_of c x (primary q d) room).answer.asked ≡ asked.Taken p → Sendable q d
+sendable : (c : Terms) (x : Exchange) (q : Primary) (d room : List ℕ) (p : ℕ) → Fours x → (answer_of c x (primary q d) room).answer.asked ≡ Ok p → Sendable q d
 sendable c x q d room p four e = by refl ((request_exactly c x (primary q d) room four 0).0 (ap asked_number e))
   where
     by : {n : ℕ} → n ≡ 0 → OpenRuled x q d n → Sendable q d
@@ -211,7 +211,7 @@ module _ (a b : Track) (l : Linked a b) (room far o : List ℕ) (m : Lent room f
   four : Fours x
   four = stands_fours s.terms x (stands a l.one)
 
-  taken : (answer_of s.terms x (primary q d) room).answer.asked ≡ asked.Taken p
+  taken : (answer_of s.terms x (primary q d) room).answer.asked ≡ Ok p
   taken = taken_inside a.link (primary q d) room o p accepted
 
   fits : Sendable q d

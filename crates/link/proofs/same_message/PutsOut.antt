@@ -1,5 +1,6 @@
 -- The last block of the message being sent is put out: no tick has a part in that, and it has none in what the message's ACK leaves. So it does
 -- not matter how many ticks pass between the two: what is reported meanwhile waits. Assumes nothing.
+use Rattle.std.specs.Prelude.{Option, Some, None}
 use Prim.Native.Nat.{ℕ, zero, suc}
 use mathlib.Core.Path.{◌≡◌, refl, sym, ap, ◌∙◌}
 use mathlib.Core.Bool.{Bool, true, cond, not, ◌&&◌}
@@ -13,12 +14,8 @@ use Rattle.wire.proofs.Choice.{either, chosen}
 use Rattle.header.specs.Header.{header_of}
 use Rattle.settings.specs.Timer.{ticked}
 use Rattle.settings.specs.declared.terms.Terms.{Terms}
-use Rattle.settings.specs.declared.timer.Timer.{Timer}
-use Rattle.settings.specs.declared.timer.Timer.TheVariants.{RunsOut, Runs}
 use Rattle.place.specs.Arriving.{arriving_tick}
 use Rattle.place.specs.Own.{fresh_own, ended, own_has_verdict, first_out, own_put_out, acknowledged, own_sent, awaited_by, await_tick, replying_by, reply_tick, own_tick}
-use Rattle.place.specs.declared.Waited.{Waited}
-use Rattle.place.specs.declared.Waited.TheVariants as waited
 use Rattle.place.specs.declared.OwnStage.{OwnStage}
 use Rattle.place.specs.declared.OwnStage.TheVariants.{Free, Sending, PutOut, Awaiting, Replying, Done}
 use Rattle.place.specs.declared.Own.{Own}
@@ -39,6 +36,7 @@ use Rattle.exchange.specs.declared.Exchange.{Exchange}
 use Rattle.exchange.specs.declared.Outbox.{Outbox}
 use Rattle.exchange.specs.declared.Outgoing.TheVariants as outgoing
 use Rattle.link.specs.Run.{putting_out}
+use Rattle.place.specs.declared.Arriving.{Arriving}
 
 -- ---- a place
 
@@ -72,15 +70,15 @@ module _ (o : Own) where
   unfolding acknowledged ended
   out_sent = by_out (λ z. own_sent z ≡ own_sent o) o.header o.stage (λ e. sym (ap (λ s. own_sent (at o.header s)) e)) refl
 
-awaited_out : (o : Own) (w : Timer) → awaited_by o w ≡ own_put_out (awaited_by o w)
+awaited_out : (o : Own) (w : Option ℕ) → awaited_by o w ≡ own_put_out (awaited_by o w)
 unfolding ended
-awaited_out o RunsOut = refl
-awaited_out o (Runs n) = refl
+awaited_out o None = refl
+awaited_out o (Some n) = refl
 
-replying_out : (o : Own) (w : Waited) → replying_by o w ≡ own_put_out (replying_by o w)
+replying_out : (o : Own) (w : Option Arriving) → replying_by o w ≡ own_put_out (replying_by o w)
 unfolding ended
-replying_out o waited.Broken = refl
-replying_out o (waited.Still a) = refl
+replying_out o None = refl
+replying_out o (Some a) = refl
 
 -- and so does a tick
 out_ticked : (c : Terms) (h : List ℕ) (s : OwnStage) → own_tick c (own_put_out (at h s)) ≡ own_put_out (own_tick c (at h s))

@@ -1,4 +1,5 @@
 -- A reply that is accepted, at the end that owes it. Assumes nothing.
+use Rattle.std.specs.Prelude.{Ok}
 use Prim.Native.Nat.{ℕ, ◌+◌, ◌%◌, ◌≤◌, ◌<◌}
 use mathlib.Core.Path.{◌≡◌, refl, sym, ap, subst, ◌∙◌}
 use mathlib.Core.Bool.{true}
@@ -36,7 +37,6 @@ use Rattle.exchange.specs.declared.Exchange.{Exchange}
 use Rattle.exchange.specs.declared.IncomingReading.TheVariants as incoming
 use Rattle.exchange.specs.declared.ReplyStage.{ReplyStage}
 use Rattle.exchange.specs.declared.ReplyStage.TheVariants.{Sent}
-use Rattle.exchange.specs.declared.Asked.TheVariants.{Taken}
 use Rattle.exchange.specs.declared.Outgoing.TheVariants.{Message}
 use Rattle.link.specs.SameMessage.{Earns, one_higher, function_0}
 use Rattle.link.proofs.same_message.Delivers.{incoming_read}
@@ -70,7 +70,7 @@ pub record Replyable (h : Header) (f : ℕ) (r : List ℕ) : Type 0 where
   pub good : BadReply h f → ⊥
   pub short : length r ≤ message_limit
 
-pub replyable : (c : Terms) (x : Exchange) (p f : ℕ) (r room : List ℕ) (k : ℕ) → Fours x → (answer_of c x (reply p f r) room).answer.asked ≡ Taken k
+pub replyable : (c : Terms) (x : Exchange) (p f : ℕ) (r room : List ℕ) (k : ℕ) → Fours x → (answer_of c x (reply p f r) room).answer.asked ≡ Ok k
     → Replyable (primary_of (incoming_place x p)) f r
 replyable c x p f r room k four e = by refl ((request_exactly c x (reply p f r) room four 0).0 (ap asked_number e))
   where
@@ -87,7 +87,7 @@ replyable c x p f r room k four e = by refl ((request_exactly c x (reply p f r) 
     }
 
 -- Transactions x took reply r with function f to the message in incoming place p; y are those that send it.
-module _ (c : Terms) (x : Exchange) (p f : ℕ) (r room : List ℕ) (k : ℕ) (taken : (answer_of c x (reply p f r) room).answer.asked ≡ Taken k) where
+module _ (c : Terms) (x : Exchange) (p f : ℕ) (r room : List ℕ) (k : ℕ) (taken : (answer_of c x (reply p f r) room).answer.asked ≡ Ok k) where
   abbrev y : Exchange
   y = (answer_of c x (reply p f r) room).answer.exchange
 

@@ -1,5 +1,6 @@
 -- A reply that is accepted where a primary came is the same message where the primary was sent (`specs/SameMessage.antt`). Assumes
 -- nothing.
+use Rattle.std.specs.Prelude.{Ok}
 use Prim.Native.Nat.{ℕ, suc, ◌+◌, ◌%◌, ◌≤◌, ◌<◌}
 use mathlib.Core.Path.{◌≡◌, refl, sym, ap, subst, ◌∙◌}
 use mathlib.Core.Bool.{Bool, true, false, not, not-not, false≢true}
@@ -65,7 +66,6 @@ use Rattle.exchange.specs.declared.OwnReading.TheVariants as reading
 use Rattle.exchange.specs.declared.IncomingReading.{IncomingReading}
 use Rattle.exchange.specs.declared.IncomingReading.TheVariants as incoming
 use Rattle.exchange.specs.declared.ReplyStage.{ReplyStage}
-use Rattle.exchange.specs.declared.Asked.TheVariants as asked
 use Rattle.link.specs.Run.{putting_out}
 use Rattle.link.specs.Call.{reply_call}
 use Rattle.link.specs.Reading.{own_of, reply_by, incoming_of, message_by}
@@ -147,7 +147,7 @@ module _ (a b : Track) (l : Linked a b) (room far o : List ℕ) (m : Lent room f
   p_within : p < 4
   p_within = incoming_within b l.other p g n true shown.stage shown.so
 
-  taken : (answer_of s.terms x (reply p f r) far).answer.asked ≡ asked.Taken k
+  taken : (answer_of s.terms x (reply p f r) far).answer.asked ≡ Ok k
   taken = taken_inside b.link (reply p f r) far o k accepted
 
   fits : Replyable (incoming_primary (incoming_place x p)) f r

@@ -30,7 +30,6 @@ use Rattle.exchange.specs.declared.Sending.{Sending}
 use Rattle.exchange.specs.declared.Sending.TheVariants as sending
 use Rattle.exchange.specs.declared.Exchange.{Exchange}
 use Rattle.exchange.proofs.BeingSent.{request_sends}
-use Rattle.exchange.specs.declared.Asked.{Asked}
 use Rattle.exchange.proofs.Same.{same_message_lem, message_same, message_other}
 use Rattle.exchange.proofs.Posting.{Carries, TextIs, carries_start, carries_all, text_all}
 use Rattle.exchange.proofs.Runs.{three_equal}
@@ -53,6 +52,7 @@ use Rattle.link.proofs.inside.Agrees.{outgoing_of_lem, agrees}
 use Rattle.link.proofs.door.OneCall.{is_sent}
 use Rattle.link.proofs.device.Told.{ack_came, ack_tells}
 use Rattle.link.proofs.sends.Posts.{over_sending, message_goes}
+use Rattle.exchange.specs.Asked.{Asked}
 
 -- ---- what was told, and what the onlooker at the door heard
 

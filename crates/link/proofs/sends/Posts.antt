@@ -1,5 +1,6 @@
 -- The message that the onlooker at the door keeps is the one that the onlooker of the transactions keeps (exchange/specs/Posting.antt).
 -- Assumes nothing.
+use Rattle.std.specs.Prelude.{Ok}
 use Prim.Native.Nat.{ℕ}
 use mathlib.Core.Path.{◌≡◌, refl, sym, ap, ◌∙◌, subst}
 use mathlib.Core.Bool.{true, false≢true}
@@ -17,8 +18,6 @@ use Rattle.exchange.specs.Posting.{Post, post_asked, post_reported, post_sees}
 use Rattle.exchange.specs.Watching.{watch}
 use Rattle.exchange.specs.History as exchange
 use Rattle.exchange.specs.declared.Exchange.{Exchange}
-use Rattle.exchange.specs.declared.Asked.{Asked}
-use Rattle.exchange.specs.declared.Asked.TheVariants as asked
 use Rattle.exchange.proofs.Another.{late_other, call_numbered}
 use Rattle.exchange.proofs.BeingSent.{request_sends, sending_ends}
 use Rattle.exchange.proofs.Numbering.{call_moves}
@@ -40,6 +39,7 @@ use Rattle.link.proofs.inside.Places.{lent, goes, sound_inside, numbered_inside}
 use Rattle.link.proofs.inside.Courier.{clash, over_sends}
 use Rattle.link.proofs.inside.Agrees.{agrees}
 use Rattle.link.proofs.device.Told.{told_exactly, few_told}
+use Rattle.exchange.specs.Asked.{Asked}
 
 -- ---- what the line tells to be over was being sent
 
@@ -118,7 +118,7 @@ module _ (t : Track) (s : Post) (m : Made) where
     unfolding watch
     none = refl
 
-    taken : (p : ℕ) → (answering t.link r room).answer.asked ≡ asked.Taken p
+    taken : (p : ℕ) → (answering t.link r room).answer.asked ≡ Ok p
         → seen (exchange.request r ∷ []) ≡ post_by c (incoming_reading x) (own_reading (after (exchange.request r ∷ []))) r (outcome.Taken p) s
     unfolding watch exchange.track
     taken p e = ap (λ (a : Asked). post_asked c (incoming_reading x) (own_reading (answering t.link r room).answer.exchange) r a s) e

@@ -1,11 +1,11 @@
 -- A request that a call tells the transactions was taken, and what they answered is all that came of it. Assumes nothing.
+use Rattle.std.specs.Prelude.{Ok}
 use Prim.Native.Nat.{ℕ}
 use mathlib.Core.Path.{◌≡◌, refl, sym, ap, ◌∙◌, subst}
 use mathlib.Core.Bool.{true, false≢true}
 use mathlib.Core.List.{List}
 use Rattle.exchange.specs.Request.{Request}
 use Rattle.exchange.specs.History as exchange
-use Rattle.exchange.specs.declared.Asked.TheVariants as asked
 use Rattle.link.specs.Answer.{accepted}
 use Rattle.link.specs.Run.{Left}
 use Rattle.link.specs.History.{Call, request, called, Made, on_exchange, Track, exchange_track, terms_in, answered, next}
@@ -19,7 +19,7 @@ use Rattle.link.proofs.Accepted.{accepted_calls}
 -- at this place, by what the transactions and the unit answer
 pub record TakenAt (t : Track) (m : Made) (r : Request) : Type 0 where
   pub place : ℕ
-  pub asked : (answering t.link r (lent t m)).answer.asked ≡ asked.Taken place
+  pub asked : (answering t.link r (lent t m)).answer.asked ≡ Ok place
   pub outcome : (answered t m).answer.outcome ≡ outcome.Taken place
 
 module _ (t : Track) (m : Made) (r : Request) (a : Tells t m (exchange.request r)) where
@@ -27,7 +27,7 @@ module _ (t : Track) (m : Made) (r : Request) (a : Tells t m (exchange.request r
   left k = called t.link (lent t m) m.out k
 
   abbrev Answers : Left → Type 0
-  Answers l = (p : ℕ) × ((answering t.link r (lent t m)).answer.asked ≡ asked.Taken p) × (l.answer.outcome ≡ outcome.Taken p)
+  Answers l = (p : ℕ) × ((answering t.link r (lent t m)).answer.asked ≡ Ok p) × (l.answer.outcome ≡ outcome.Taken p)
 
   answers : accepted (left (request r)).answer.outcome ≡ true → Answers (left (request r))
   answers =

@@ -1,4 +1,5 @@
 -- When a message is being sent no more, exactly (`specs/Withdrawn.antt`). Assumes nothing.
+use Rattle.std.specs.Prelude.{Ok, Err}
 use Prim.Native.Nat.{ℕ, ◌<◌}
 use mathlib.Core.Path.{◌≡◌, refl, sym, ap, ◌∙◌, subst}
 use mathlib.Core.Bool.{true, false, cond, false≢true}
@@ -23,8 +24,6 @@ use Rattle.exchange.specs.History as exchange
 use Rattle.exchange.specs.BeingSent.{sending_after, NoneOrReport, none, report}
 use Rattle.exchange.specs.Underway.{OnItsWay}
 use Rattle.exchange.specs.Watching.{found_at, told_by, own_sees}
-use Rattle.exchange.specs.declared.Asked.{Asked}
-use Rattle.exchange.specs.declared.Asked.TheVariants as asked
 use Rattle.exchange.specs.declared.Sending.{Sending}
 use Rattle.exchange.specs.declared.Sending.TheVariants as sending
 use Rattle.exchange.specs.declared.Exchange.{Exchange}
@@ -49,6 +48,7 @@ use Rattle.link.proofs.moves.Seen.{by_told, with_it, seen_alone, led_alone}
 use Rattle.link.proofs.moves.Own.{underway_exactly, own_seen}
 use Rattle.link.proofs.sends.Bytes.{last_acknowledged}
 use Rattle.link.proofs.hearing.Fails.{failed_exactly}
+use Rattle.exchange.specs.Asked.{Asked}
 
 -- ---- what is told, and what is being sent then
 
@@ -59,8 +59,8 @@ asked_sends c x r room s =
     either (lends r) (λ z. (answer_of c x r room).answer.exchange.sending ≡ x.sending) (by (answer_of c x r room).answer.asked refl) q.spares
   where
     by : (a : Asked) → (answer_of c x r room).answer.asked ≡ a → lends r ≡ true → (answer_of c x r room).answer.exchange.sending ≡ x.sending
-    by (asked.Taken p) e l = clash (sym ((request_sends c x r room).starts p e l).before ∙ s)
-    by (asked.Refused n) e l = (request_sends c x r room).becomes ∙ ap (λ (a : Asked). sending_after r a x.sending) e
+    by (Ok p) e l = clash (sym ((request_sends c x r room).starts p e l).before ∙ s)
+    by (Err n) e l = (request_sends c x r room).becomes ∙ ap (λ (a : Asked). sending_after r a x.sending) e
 
 module _ (t : Track) (m : Made) where
   abbrev c : Terms
