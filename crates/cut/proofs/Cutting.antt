@@ -11,13 +11,13 @@ use lib.Seq.{take-add, take_all}
 use borrow.Author.Tests.{leb-true, le-leb, eqb-true, eqb-false, eq-eqb, ne_eqb}
 use Rattle.wire.specs.Bytes.{part}
 use Rattle.wire.proofs.Choice.{either, judged, three}
-use Rattle.cut.specs.Blocks.{block_count, part_start, part_length, has_block, header_at, cut_of}
+use Rattle.cut.specs.Blocks.{block_count, part_start, part_length, has_block, header_at, cut_of, cut_at}
 use Rattle.cut.specs.Theorems.{CutNumbers, BlockOfMessage, CutBlocks, part_in, CutParts, joined, CutJoined}
 use Rattle.header.specs.declared.header.Header.{Header}
 use Rattle.cut.specs.declared.Cut.{Cut}
-use Rattle.cut.specs.declared.Cut.TheVariants.{Block, NoBlock}
 use Rattle.header.proofs.Headers.{numbered_keeps}
 use Rattle.cut.proofs.Counts.{count_is_fewest}
+use Rattle.std.specs.Prelude.{Some, Option, None}
 
 -- there is a block k of n bytes
 abbrev pub Within : ℕ → ℕ → Type 0
@@ -31,23 +31,23 @@ has_block_lem n k = (
 )
 
 -- the two answers to a cut
-by_cut : (h : Header) (n k : ℕ) (P : Cut → Type 0) → (Within n k → P (Block (header_at h n k) (part_start k) (part_length n k)))
-    → ((Within n k → ⊥) → P NoBlock) → P (cut_of h n k)
+by_cut : (h : Header) (n k : ℕ) (P : Option Cut → Type 0) → (Within n k → P (cut_at (header_at h n k) (part_start k) (part_length n k)))
+    → ((Within n k → ⊥) → P None) → P (cut_of h n k)
 unfolding cut_of
 by_cut h n k P =
-    judged (has_block n k) (has_block_lem n k) (λ t. P (cond t (Block (header_at h n k) (part_start k) (part_length n k)) NoBlock))
+    judged (has_block n k) (has_block_lem n k) (λ t. P (cond t (cut_at (header_at h n k) (part_start k) (part_length n k)) None))
 
-pub cut_is : (h : Header) (n k : ℕ) → Within n k → cut_of h n k ≡ Block (header_at h n k) (part_start k) (part_length n k)
+pub cut_is : (h : Header) (n k : ℕ) → Within n k → cut_of h n k ≡ cut_at (header_at h n k) (part_start k) (part_length n k)
 cut_is h n k w =
-    by_cut h n k (λ c. c ≡ Block (header_at h n k) (part_start k) (part_length n k)) (λ v. refl) (λ none. absurd (none w))
+    by_cut h n k (λ c. c ≡ cut_at (header_at h n k) (part_start k) (part_length n k)) (λ v. refl) (λ none. absurd (none w))
 
 -- a block is not none
-some_block : (h : Header) (start size : ℕ) → Block h start size ≡ NoBlock → ⊥
+some_block : (h : Header) (start size : ℕ) → cut_at h start size ≡ None → ⊥
 some_block h start size e = let z : ◌≡◌ {A = ℕ} 0 1 = cc in omega arith
 
 pub cut_numbers : CutNumbers
 cut_numbers h n k =
-    by_cut h n k (λ c. (c ≡ NoBlock → ⊥) ↔ Within n k)
+    by_cut h n k (λ c. (c ≡ None → ⊥) ↔ Within n k)
     (λ w. (λ f. w, λ v. some_block (header_at h n k) (part_start k) (part_length n k)))
     (λ none. (λ f. absurd (f refl), λ w. absurd (none w)))
 
@@ -76,14 +76,19 @@ part_fits n k one most = ⊎_elim last before (last_or_before n k most)
     before : k < block_count n → (part_length n k ≤ 244) × (part_start k + part_length n k ≤ n)
     before h = let c = count_is_fewest n in let p = part_filled n k h in omega arith
 
+-- the block that there is, or another
+abbrev cut_or : Cut → Option Cut → Cut
+cut_or d (Some c) = c
+cut_or d None = d
+
 pub cut_blocks : CutBlocks
 unfolding header_at
 cut_blocks h of n k start size =
-    by_cut h n k (λ c. c ≡ Block of start size → BlockOfMessage h n k of start size)
+    by_cut h n k (λ c. c ≡ cut_at of start size → BlockOfMessage h n k of start size)
     (λ w e.
-    let p : header_at h n k ≡ of = cc in
-    let q : part_start k ≡ start = cc in
-    let r : part_length n k ≡ size = cc in
+    let p : header_at h n k ≡ of = ap (λ (c : Option Cut). (cut_or (record { header = of; start = start; length = size }) c).header) e in
+    let q : part_start k ≡ start = ap (λ (c : Option Cut). (cut_or (record { header = of; start = start; length = size }) c).start) e in
+    let r : part_length n k ≡ size = ap (λ (c : Option Cut). (cut_or (record { header = of; start = start; length = size }) c).length) e in
     rw (p, q, r) at (block w))
     (λ none e. absurd (some_block of start size (sym e)))
   where
@@ -113,7 +118,7 @@ joined_front h d (suc k) most fits =
     let start : part_start (suc k) ≡ k * 244 = omega arith in
     let size : part_start (suc k) + l - part_start (suc k) ≡ l = omega arith in
     let here : part_in (cut_of h n (suc k)) d ≡ take l (drop (k * 244) d) =
-    ap (λ (c : Cut). part_in c d) (cut_is h n (suc k) (omega arith, most, omega arith))
+    ap (λ (c : Option Cut). part_in c d) (cut_is h n (suc k) (omega arith, most, omega arith))
     ∙ (λ i. take (size i) (drop (start i) d)) in
     (λ i. joined_front h d k (omega arith) fits i ++ here i) ∙ sym (take-add (k * 244) l d) ∙ ⊎_elim last before (last_or_before n (suc k) most)
   where

@@ -1,9 +1,8 @@
 -- Cutting a message into blocks (E4 6.6, 6.7, 7.2; 01, "Block and header": "Cutting (house: blocks are filled)").
-use Rattle.std.specs.Prelude.{ℕ, ◌+◌, ◌-◌, ◌*◌, ◌/◌, Bool, cond, ◌&&◌, eqb, leb}
+use Rattle.std.specs.Prelude.{ℕ, ◌+◌, ◌-◌, ◌*◌, ◌/◌, Bool, cond, ◌&&◌, eqb, leb, Option, None, Some}
 use Rattle.header.specs.Header.{numbered_of}
 use Rattle.header.specs.declared.header.Header.{Header}
 use Rattle.cut.specs.declared.Cut.{Cut}
-use Rattle.cut.specs.declared.Cut.TheVariants.{Block, NoBlock}
 
 -- how many data bytes a filled block carries: "The maximum data length in a single block" (E4 7.2.1)
 abbrev pub block_data : ℕ
@@ -34,6 +33,10 @@ has_block n k = leb 1 k && leb k (block_count n) && leb k 32767
 unfoldable pub header_at : Header → ℕ → ℕ → Header
 header_at h n k = numbered_of h k (eqb k (block_count n))
 
+-- there is one, with this header, and its part of the data is so many bytes from there on
+abbrev pub cut_at : Header → ℕ → ℕ → Option Cut
+cut_at h start size = Some (record { header = h; start = start; length = size })
+
 -- block k: its header, and where its part of the data starts and how long it is
-unfoldable pub cut_of : Header → ℕ → ℕ → Cut
-cut_of h n k = cond (has_block n k) (Block (header_at h n k) (part_start k) (part_length n k)) NoBlock
+unfoldable pub cut_of : Header → ℕ → ℕ → Option Cut
+cut_of h n k = cond (has_block n k) (cut_at (header_at h n k) (part_start k) (part_length n k)) None

@@ -1,14 +1,13 @@
 -- The rows of 01's proved table ("Bench program and proved table") that are about cutting.
-use Rattle.std.specs.Prelude.{ℕ, ◌+◌, ◌≡◌}
+use Rattle.std.specs.Prelude.{ℕ, ◌+◌, ◌≡◌, Option, None, Some}
 use Rattle.header.specs.Table.{primary}
-use Rattle.cut.specs.Blocks.{block_count, cut_of}
+use Rattle.cut.specs.Blocks.{block_count, cut_of, cut_at}
 use Rattle.cut.specs.declared.Cut.{Cut}
-use Rattle.cut.specs.declared.Cut.TheVariants.{Block, NoBlock}
 
 -- the block length N of what was cut: ten header bytes, and its part of the data
-abbrev pub length_of : Cut → ℕ
-length_of (Block h start size) = 10 + size
-length_of NoBlock = 0
+abbrev pub length_of : Option Cut → ℕ
+length_of (Some c) = 10 + c.length
+length_of None = 0
 
 -- N of the last block of a message of n bytes
 abbrev pub last_length : ℕ → ℕ

@@ -1,12 +1,11 @@
 -- What is proved of the definitions of this crate, over all inputs. Each proof is in `proofs/`.
-use Rattle.std.specs.Prelude.{ℕ, zero, suc, ◌+◌, ◌-◌, ◌*◌, ◌≤◌, ◌<◌, ◌≡◌, true, List, [], ◌++◌, ◌↔◌, length}
+use Rattle.std.specs.Prelude.{ℕ, zero, suc, ◌+◌, ◌-◌, ◌*◌, ◌≤◌, ◌<◌, ◌≡◌, true, List, [], ◌++◌, ◌↔◌, length, Option, None, Some}
 use Rattle.wire.specs.Bytes.{part}
 use Rattle.wire.specs.Message.{message_limit}
-use Rattle.cut.specs.Blocks.{block_count, most_blocks, cut_of}
+use Rattle.cut.specs.Blocks.{block_count, most_blocks, cut_of, cut_at}
 use Rattle.header.specs.Theorems.{SameElse}
 use Rattle.header.specs.declared.header.Header.{Header}
 use Rattle.cut.specs.declared.Cut.{Cut}
-use Rattle.cut.specs.declared.Cut.TheVariants.{Block, NoBlock}
 
 -- c blocks hold n bytes at 244 bytes each, and no fewer do: those before the last leave it a byte, if there is one
 pub record FewestBlocks (n c : ℕ) : Type 0 where
@@ -24,7 +23,7 @@ MostBlocks = (block_count message_limit ≡ most_blocks) × ((n : ℕ) → n ≤
 -- Cutting a message of n bytes with header h gives blocks 1 to `block_count n`, in so far as they have a number of E4
 -- (up to 32,767), and no others.
 abbrev pub CutNumbers : Type 0
-CutNumbers = (h : Header) (n k : ℕ) → (cut_of h n k ≡ NoBlock → ⊥) ↔ ((1 ≤ k) × (k ≤ block_count n) × (k ≤ 32767))
+CutNumbers = (h : Header) (n k : ℕ) → (cut_of h n k ≡ None → ⊥) ↔ ((1 ≤ k) × (k ≤ block_count n) × (k ≤ 32767))
 
 -- What block k of a message of n bytes with header h is, where there is one.
 pub record BlockOfMessage (h : Header) (n k : ℕ) (of : Header) (start size : ℕ) : Type 0 where
@@ -36,16 +35,16 @@ pub record BlockOfMessage (h : Header) (n k : ℕ) (of : Header) (start size : �
   pub within : start + size ≤ n
 
 abbrev pub CutBlocks : Type 0
-CutBlocks = (h of : Header) (n k start size : ℕ) → cut_of h n k ≡ Block of start size → BlockOfMessage h n k of start size
+CutBlocks = (h of : Header) (n k start size : ℕ) → cut_of h n k ≡ cut_at of start size → BlockOfMessage h n k of start size
 
 -- a block's part of the message
-abbrev pub part_in : Cut → List ℕ → List ℕ
-part_in (Block h start size) d = part start (start + size) d
-part_in NoBlock d = []
+abbrev pub part_in : Option Cut → List ℕ → List ℕ
+part_in (Some c) d = part c.start (c.start + c.length) d
+part_in None d = []
 
 -- and it is as long as the cut says
 abbrev pub CutParts : Type 0
-CutParts = (h of : Header) (d : List ℕ) (k start size : ℕ) → cut_of h (length d) k ≡ Block of start size → length (part_in (Block of start size) d) ≡ size
+CutParts = (h of : Header) (d : List ℕ) (k start size : ℕ) → cut_of h (length d) k ≡ cut_at of start size → length (part_in (cut_at of start size) d) ≡ size
 
 -- the parts of blocks 1 to k, joined
 unfoldable pub joined : Header → List ℕ → ℕ → List ℕ

@@ -20,14 +20,10 @@ const LAST_NUMBER: usize = 32767;
 
 // One block of a message: its header, and its part of the message's data, `length` bytes from `start` on.
 #[derive(Clone, Copy)]
-pub enum Cut {
-    Block {
-        header: Header,
-        start: usize,
-        length: usize,
-    },
-    // The message has no block of this number.
-    NoBlock,
+pub struct Cut {
+    pub header: Header,
+    pub start: usize,
+    pub length: usize,
 }
 
 // How many blocks a message of `length` data bytes makes.
@@ -40,32 +36,19 @@ pub fn blocks_in(length: usize) -> usize
     (length - 1) / BLOCK_DATA + 1
 }
 
-// Block `k` of a message of `length` data bytes. The message's header gives all but the block number and the E-bit.
-pub fn cut_block(header: Header, length: usize, k: usize) -> Cut
+// Block `k` of a message of `length` data bytes, if there is one. The message's header gives all but the block number and the E-bit.
+pub fn cut_block(header: Header, length: usize, k: usize) -> Option<Cut>
     ensures { result ≡ cut_of header length k }
 {
-    if k < 1 {
-        return Cut::NoBlock;
-    }
     let count = blocks_in(length);
-    if count < k {
-        return Cut::NoBlock;
-    }
-    if LAST_NUMBER < k {
-        return Cut::NoBlock;
+    if k < 1 || count < k || LAST_NUMBER < k {
+        return None;
     }
     let start = (k - 1) * BLOCK_DATA;
-    let number = k as u16;
-    if k == count {
-        return Cut::Block {
-            header: header.numbered(number, true),
-            start,
-            length: length - start,
-        };
-    }
-    Cut::Block {
-        header: header.numbered(number, false),
+    let last = k == count;
+    Some(Cut {
+        header: header.numbered(k as u16, last),
         start,
-        length: BLOCK_DATA,
-    }
+        length: if last { length - start } else { BLOCK_DATA },
+    })
 }

@@ -1,13 +1,12 @@
 -- A call that is not refused has one course (01, "The line", "Messages"): the device's step; the transactions are told; the courier; the
 -- line settles.
-use Rattle.std.specs.Prelude.{ℕ, Bool, true, false, cond, ◌||◌, List, [], ◌∷◌, ◌++◌, ltb, length, get_or}
+use Rattle.std.specs.Prelude.{ℕ, Bool, true, false, cond, ◌||◌, List, [], ◌∷◌, ◌++◌, ltb, length, get_or, Option, None, Some}
 use Rattle.wire.specs.Bytes.{part}
 use Rattle.wire.specs.Lent.{on_front}
 use Rattle.header.specs.Header.{first_ten}
 use Rattle.settings.specs.declared.terms.Terms.{Terms}
-use Rattle.cut.specs.Blocks.{block_count, cut_of}
+use Rattle.cut.specs.Blocks.{block_count, cut_of, cut_at}
 use Rattle.cut.specs.declared.Cut.{Cut}
-use Rattle.cut.specs.declared.Cut.TheVariants as cut
 use Rattle.block.specs.Block.{block_of}
 use Rattle.room.specs.Room.{bytes_in}
 use Rattle.room.specs.declared.Message.TheVariants as message
@@ -155,9 +154,9 @@ course u p t m k room o = settled u p (carried_by u t m.exchange room) m k room 
 -- ---- the whole block
 
 -- the bytes of a block that was cut from the message in the send area
-abbrev pub bytes_by : Cut → List ℕ → List ℕ
-bytes_by (cut.Block h start n) room = block_of h (bytes_in room message.Send start n)
-bytes_by cut.NoBlock room = []
+abbrev pub bytes_by : Option Cut → List ℕ → List ℕ
+bytes_by (Some c) room = block_of c.header (bytes_in room message.Send c.start c.length)
+bytes_by None room = []
 
 -- A report is one block, and no byte of it lies in the room: "the two bytes hex 21 0A, then the ten header bytes" that it shows (02,
 -- request 2).

@@ -13,9 +13,8 @@ use Rattle.wire.proofs.Choice.{either}
 use Rattle.wire.proofs.Lent.{front_put}
 use Rattle.header.specs.Header.{header_bytes}
 use Rattle.header.specs.declared.header.Header.{Header}
-use Rattle.cut.specs.Blocks.{cut_of}
+use Rattle.cut.specs.Blocks.{cut_of, cut_at}
 use Rattle.cut.specs.declared.Cut.{Cut}
-use Rattle.cut.specs.declared.Cut.TheVariants as cut
 use Rattle.cut.proofs.Cutting.{cut_blocks}
 use Rattle.block.specs.Block.{Writing, writing, write_of, block_of, framed, output_short, length_good, taken_write}
 use Rattle.block.specs.declared.Refusal.{Refusal}
@@ -34,6 +33,7 @@ use Rattle.exchange.specs.declared.Outgoing.{Outgoing}
 use Rattle.exchange.specs.declared.Outgoing.TheVariants as outgoing
 use Rattle.link.specs.Run.{codes, bytes_by, block_in}
 use Rattle.unit.specs.Put.{put_at}
+use Rattle.std.specs.Prelude.{Option}
 
 -- ---- codes
 
@@ -118,7 +118,7 @@ not_refused h d bs now r k room e q =
     absurd (omega arith)
 
 -- the data of a block that was cut, read in the send area
-pub part_fits : (h g : Header) (n k start size : ℕ) (room : List ℕ) (m : Message) {c : Cut} → c ≡ cut_of h n k → c ≡ cut.Block g start size
+pub part_fits : (h g : Header) (n k start size : ℕ) (room : List ℕ) (m : Message) {c : Option Cut} → c ≡ cut_of h n k → c ≡ cut_at g start size
     → length (bytes_in room m start size) ≤ 244
 part_fits h g n k start size room m e q =
     let most = (cut_blocks h g n k start size (sym e ∙ q)).most in
@@ -127,7 +127,7 @@ part_fits h g n k start size room m e q =
     (λ f. let none = nothing_read room m start size (λ l. false≢true (sym f ∙ (lies_exactly room m start size).1 l)) in
     rw none (omega arith))
 
-pub cut_from : (device : ℕ) (shown : List ℕ) (m : Outgoing) (h : Header) (n k : ℕ) (room : List ℕ) {c : Cut} → m ≡ outgoing.Message h n → c ≡ cut_of h n k
+pub cut_from : (device : ℕ) (shown : List ℕ) (m : Outgoing) (h : Header) (n k : ℕ) (room : List ℕ) {c : Option Cut} → m ≡ outgoing.Message h n → c ≡ cut_of h n k
     → block_in device shown m k room ≡ bytes_by c room
 cut_from device shown m h n k room e q = rw (e, q) refl
 

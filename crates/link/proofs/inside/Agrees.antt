@@ -10,11 +10,10 @@ use borrow.Author.Tests.{ltb-true}
 use Rattle.wire.proofs.Choice.{either}
 use Rattle.wire.specs.Message.{message_limit}
 use Rattle.header.specs.declared.header.Header.{Header}
-use Rattle.cut.specs.Blocks.{most_blocks, block_count, part_start, part_length, header_at, cut_of}
+use Rattle.cut.specs.Blocks.{most_blocks, block_count, part_start, part_length, header_at, cut_of, cut_at}
 use Rattle.cut.proofs.Cutting.{cut_is}
 use Rattle.cut.proofs.Counts.{count_is_fewest, most_blocks_lem}
 use Rattle.cut.specs.declared.Cut.{Cut}
-use Rattle.cut.specs.declared.Cut.TheVariants as cut
 use Rattle.line.specs.Line.{Heard, under_way, busy, settle_of}
 use Rattle.line.specs.Theorems.{Turns}
 use Rattle.line.specs.declared.line.Line.{Line}
@@ -53,6 +52,7 @@ use Rattle.link.proofs.inside.Reached.{by_calls, line_inside}
 use Rattle.link.proofs.inside.Places.{exchange_inside, sound_inside, numbered_inside}
 use Rattle.link.proofs.inside.Courier.{clash, not_busy, none_under_way, courier_agrees, goes_on_by, Goes, over_sends, heard_as, told_sends, out_sends}
 use Rattle.link.proofs.inside.Rests.{Rests, byte_rests, tick_rests}
+use Rattle.std.specs.Prelude.{Option}
 
 -- block k is one of message z; it is 1 where there is none
 record OneOf (z : Sending) (k : ℕ) : Type 0 where
@@ -264,14 +264,14 @@ module _ (t : Track) (w : Reached t) where
   whole : (h : Header) → outgoing_of x ≡ outgoing.Message h size → Whole t
   whole h sent =
       let g = agrees t w in
-      let there : cut_of h size k ≡ cut.Block (header_at h size k) (part_start k) (part_length size k) =
+      let there : cut_of h size k ≡ cut_at (header_at h size k) (part_start k) (part_length size k) =
       cut_is h size k (g.first, (g.within h _ sent).0, omega (arith, g.most)) in
       record {
         header = h;
         size = size;
         sent = sent;
         block = there;
-        bytes = λ room. ap (λ (o : Outgoing). block_in (terms_in t).device x.reports.shown o k room) sent ∙ ap (λ (c : Cut). bytes_by c room) there;
+        bytes = λ room. ap (λ (o : Outgoing). block_in (terms_in t).device x.reports.shown o k room) sent ∙ ap (λ (c : Option Cut). bytes_by c room) there;
       }
 
   whole_report : (f n : ℕ) → outgoing_of x ≡ outgoing.Report f n → WholeReport t

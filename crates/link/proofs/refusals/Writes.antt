@@ -19,10 +19,9 @@ use Rattle.room.proofs.Areas.{lies_exactly}
 use Rattle.room.proofs.Reading.{bytes_read, nothing_read}
 use Rattle.room.specs.declared.Message.{Message}
 use Rattle.room.specs.declared.Message.TheVariants as message
-use Rattle.cut.specs.Blocks.{cut_of}
+use Rattle.cut.specs.Blocks.{cut_of, cut_at}
 use Rattle.cut.proofs.Cutting.{cut_blocks}
 use Rattle.cut.specs.declared.Cut.{Cut}
-use Rattle.cut.specs.declared.Cut.TheVariants as cut
 use Rattle.block.specs.Block.{framed, block_of}
 use Rattle.block.proofs.Frames.{frame_length}
 use Rattle.line.specs.Codes.{bytes_out}
@@ -50,6 +49,7 @@ use Rattle.link.proofs.Cases.{by_byte, by_answer, answering}
 use Rattle.link.proofs.door.Bytes.{leaves_by_line}
 use Rattle.link.proofs.refusals.Rows.{behind, by_rows, by_passing, refused_changes_nothing}
 use Rattle.link.proofs.refusals.Room.{size_behind, fills_behind}
+use Rattle.std.specs.Prelude.{Option, None}
 
 -- ---- how many bytes leave
 
@@ -78,11 +78,11 @@ unfolding framed
 block_most h d few =
     omega (arith, frame_length (header_bytes h ++ d) (checksum_of (header_bytes h ++ d)), length-append (header_bytes h) d, header_ten h)
 
-cut_most : (h : Header) (n k : ℕ) (room : List ℕ) (c : Cut) → cut_of h n k ≡ c → length (bytes_by c room) ≤ 257
-cut_most h n k room (cut.Block of start size) e =
+cut_most : (h : Header) (n k : ℕ) (room : List ℕ) (c : Option Cut) → cut_of h n k ≡ c → length (bytes_by c room) ≤ 257
+cut_most h n k room (cut_at of start size) e =
     block_most of (bytes_in room message.Send start size)
     (omega (arith, read_most room message.Send start size, (cut_blocks h of n k start size e).most))
-cut_most h n k room cut.NoBlock e = omega arith
+cut_most h n k room None e = omega arith
 
 -- a report has twelve data bytes
 report_most : (shown : List ℕ) → length (report_body shown) ≤ 244

@@ -13,10 +13,9 @@ use Rattle.wire.specs.Bytes.{Bytes, part}
 use Rattle.wire.proofs.Choice.{either}
 use Rattle.header.specs.Header.{InRange, top_bit, header_bytes, first_ten}
 use Rattle.header.specs.declared.header.Header.{Header}
-use Rattle.cut.specs.Blocks.{most_blocks, block_count, part_start, part_length, header_at, cut_of}
+use Rattle.cut.specs.Blocks.{most_blocks, block_count, part_start, part_length, header_at, cut_of, cut_at}
 use Rattle.cut.specs.Theorems.{part_in}
 use Rattle.cut.specs.declared.Cut.{Cut}
-use Rattle.cut.specs.declared.Cut.TheVariants.{Block}
 use Rattle.cut.proofs.Counts.{count_is_fewest}
 use Rattle.cut.proofs.Cutting.{cut_is, cut_blocks, cut_parts}
 use Rattle.wire.specs.Sum.{checksum_of}
@@ -27,6 +26,7 @@ use Rattle.room.proofs.Reading.{bytes_read}
 use Rattle.exchange.specs.Assembly.{data_in}
 use Rattle.exchange.specs.declared.Outgoing.TheVariants.{Message}
 use Rattle.link.specs.Run.{bytes_by, block_in}
+use Rattle.std.specs.Prelude.{Option}
 
 -- ---- bytes
 
@@ -111,7 +111,7 @@ module _ (h : Header) (d : List ℕ) (i : InRange h) (short : length d ≤ messa
   some = (count_is_fewest (length d)).some
 
   module _ (k : ℕ) (one : 1 ≤ k) (most : k ≤ block_count (length d)) where
-    pub there_is : cut_of h (length d) k ≡ Block (header_at h (length d) k) (part_start k) (part_length (length d) k)
+    pub there_is : cut_of h (length d) k ≡ cut_at (header_at h (length d) k) (part_start k) (part_length (length d) k)
     there_is = cut_is h (length d) k (one, most, omega (arith, few))
 
     pub header_in_range : InRange (header_at h (length d) k)
@@ -119,7 +119,7 @@ module _ (h : Header) (d : List ℕ) (i : InRange h) (short : length d ≤ messa
     header_in_range = record { device = i.device; stream = i.stream; function = i.function; number = omega (arith, few); system = i.system }
 
     data_is : data_in h d k ≡ part (part_start k) (part_start k + part_length (length d) k) d
-    data_is = ap (λ (c : Cut). part_in c d) there_is
+    data_is = ap (λ (c : Option Cut). part_in c d) there_is
 
     pub data_length : length (data_in h d k) ≡ part_length (length d) k
     data_length = omega (arith, ap length data_is, cut_parts h (header_at h (length d) k) d k (part_start k) (part_length (length d) k) there_is)
@@ -137,7 +137,7 @@ module _ (h : Header) (d : List ℕ) (i : InRange h) (short : length d ≤ messa
         → block_in device shown (Message h (length d)) k room ≡ block_of (header_at h (length d) k) (data_in h d k)
     block_out device shown room whole starts =
         let c = cut_blocks h (header_at h (length d) k) (length d) k (part_start k) (part_length (length d) k) there_is in
-        ap (λ (z : Cut). bytes_by z room) there_is
+        ap (λ (z : Option Cut). bytes_by z room) there_is
         ∙ ap (block_of (header_at h (length d) k))
         ((bytes_read room Send (part_start k) (part_length (length d) k) (record { whole = whole; place = omega arith; within = omega (arith, c.within) })
         ).of_front (length d) c.within short

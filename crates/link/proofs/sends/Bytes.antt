@@ -71,6 +71,7 @@ use Rattle.link.proofs.verdicts.Back.{exchange_back}
 use Rattle.link.proofs.verdicts.Replies.{on_its_way_exactly}
 use Rattle.link.proofs.same_message.Blocks.{there_is, block_out}
 use Rattle.link.proofs.sends.Counts.{held, as_long, block_moves, next_is, next_exactly}
+use Rattle.std.specs.Prelude.{Option}
 
 -- ---- block k of a message
 
@@ -135,7 +136,7 @@ message_out :
 unfolding header_at
 message_out h d range short k one most device shown room whole starts =
     block_out h d range short k one most device shown room whole starts
-    ∙ ap (block_of (header_at h (length d) k)) (ap (λ (c : Cut). part_in c d) (there_is h d range short k one most) ∙ part_is d k one most)
+    ∙ ap (block_of (header_at h (length d) k)) (ap (λ (c : Option Cut). part_in c d) (there_is h d range short k one most) ∙ part_is d k one most)
 
 pub sends_accepted : SendsAccepted
 sends_accepted t w a back fits16 ours range fits o ok =
