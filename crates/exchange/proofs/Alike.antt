@@ -1,4 +1,5 @@
 -- The comparison of two lists of bytes (`same_bytes`): a walk that has come to index i, and that it is equality. Assumes nothing.
+use Rattle.std.specs.Prelude.{Option, None, Some}
 use Prim.Native.Nat.{ℕ, ◌+◌, ◌≤◌, ◌<◌}
 use mathlib.Core.Path.{◌≡◌, refl, sym, ◌∙◌}
 use mathlib.Core.Bool.{true, false, ◌&&◌, false≢true}
@@ -37,3 +38,8 @@ same_eq [] [] e = refl
 same_eq [] (y ∷ b) e = absurd (false≢true e)
 same_eq (x ∷ a) [] e = absurd (false≢true e)
 same_eq (x ∷ a) (y ∷ b) e = let w = (both (eqb x y) (same_bytes a b)).0 e in λ k. eqb-true x y w.0 k ∷ same_eq a b w.1 k
+
+-- the bytes that are saved
+abbrev pub bytes_saved : Option (List ℕ) → List ℕ
+bytes_saved None = []
+bytes_saved (Some h) = h

@@ -1,4 +1,5 @@
 -- Assembly of a cut message is the message (`specs/Assembly.antt`). Assumes nothing.
+use Rattle.std.specs.Prelude.{None}
 use Prim.Native.Nat.{ℕ, zero, suc, ◌+◌, ◌%◌, ◌≤◌, ◌<◌}
 use mathlib.Core.Path.{◌≡◌, refl, sym, ap, subst, ◌∙◌}
 use mathlib.Core.Bool.{Bool, true, false, cond, false≢true}
@@ -247,7 +248,7 @@ module _ (c : Terms) (pauses : ℕ → ℕ) (x : Exchange) (four : Fours x) (eve
             λ m. record {
               own = w.own m;
               incoming = [];
-              saved = record { any = false; header = [] };
+              saved = None;
               numbers = record { last = s.0 m; latest = w.latest m };
               sending = s.1 m;
               reports = s.2 m;

@@ -1,5 +1,6 @@
 -- The blocks that are cut from a message come one after the other, with ticks between them, and each is kept for one place: what holds of
 -- a primary in an incoming place and of a reply in an own one. Assumes nothing.
+use Rattle.std.specs.Prelude.{Option, Some}
 use Prim.Native.Nat.{ℕ, zero, suc, ◌+◌, ◌-◌, ◌≤◌, ◌<◌}
 use mathlib.Core.Path.{◌≡◌, refl, sym, ap, subst, ◌∙◌}
 use mathlib.Core.Bool.{Bool, true, false}
@@ -30,7 +31,6 @@ use Rattle.exchange.specs.Releases.{Side}
 use Rattle.exchange.specs.Releases as side
 use Rattle.exchange.specs.Assembly.{header_in, data_in, Receiver, receiver_of, passes, rests, receives, received, ticks_before, ticks_alone}
 use Rattle.exchange.specs.declared.Flags.{Flags}
-use Rattle.exchange.specs.declared.Saved.{Saved}
 use Rattle.exchange.specs.declared.Exchange.{Exchange}
 use Rattle.exchange.proofs.Repeated.{more}
 use Rattle.exchange.proofs.Boxes.{no_cause}
@@ -38,6 +38,7 @@ use Rattle.exchange.proofs.Sides.{Place, place}
 use Rattle.exchange.proofs.Holding.{area}
 use Rattle.exchange.proofs.Blocks.{routed_at, differ}
 use Rattle.exchange.proofs.Growing.{filling, kept_front}
+use Rattle.exchange.proofs.Alike.{bytes_saved}
 use Rattle.exchange.proofs.Passing.{saved_stays, fours_stay, passes_more, Beside, itself, beside_ticks, put_block, put_fours, put_there, beside_put}
 
 -- the ticks before the first block
@@ -96,7 +97,7 @@ record Came (z : Side) (x : Exchange) (p : ℕ) (b : List ℕ) (o : Place z) (k 
   beside : Beside z p x r.exchange
   box : Box r.exchange
   fours : Fours r.exchange
-  saved : r.exchange.saved ≡ record { any = true; header = b }
+  saved : r.exchange.saved ≡ Some b
   bytes : r.room ≡ left
   notes : r.notes ≡ replicate (suc k) 21
   flags : r.flags ≡ replicate k no_flags ++ (raised z p t ∷ [])
@@ -108,7 +109,7 @@ pub record Complete (z : Side) (x : Exchange) (p : ℕ) (b d : List ℕ) (o : Pl
   pub here : place z r.exchange p ≡ o
   pub beside : Beside z p x r.exchange
   pub box : Box r.exchange
-  pub saved : r.exchange.saved ≡ record { any = true; header = b }
+  pub saved : r.exchange.saved ≡ Some b
   pub bytes : front r.room (area z p) (length d) ≡ d
   pub notes : r.notes ≡ replicate (block_count (length d)) 21
   pub flags : r.flags ≡ replicate (block_count (length d) - 1) no_flags ++ (raised z p true ∷ [])
@@ -169,11 +170,11 @@ module _ (z : Side) (c : Terms) (pauses : ℕ → ℕ) (x : Exchange) (four : Fo
         }
 
     -- a header that is not the saved one is no duplicate
-    another : (y : Exchange) (k : ℕ) → suc k < block_count (length d) → y.saved ≡ record { any = true; header = header_in h d (suc k) } → New c y (header_in h d (suc (suc k)))
+    another : (y : Exchange) (k : ℕ) → suc k < block_count (length d) → y.saved ≡ Some (header_in h d (suc k)) → New c y (header_in h d (suc (suc k)))
     another y k less e = record {
       routed = routed_at h d i short c (suc (suc k)) less q;
       no_duplicate = λ u.
-          differ h d i short (suc k) (suc (suc k)) (omega arith) less (λ z. omega arith) (sym (ap (λ (s : Saved). s.header) e) ∙ u.same);
+          differ h d i short (suc k) (suc (suc k)) (omega arith) less (λ z. omega arith) (ap (λ (s : Option (List ℕ)). bytes_saved s) (sym e ∙ u.same));
     }
 
     -- by induction
@@ -186,8 +187,7 @@ module _ (z : Side) (c : Terms) (pauses : ℕ → ℕ) (x : Exchange) (four : Fo
           no_duplicate = λ u.
               new (record {
                 check = u.check;
-                any = ap (λ (s : Saved). s.any) (sym (saved_stays c x (pauses 1))) ∙ u.any;
-                same = ap (λ (s : Saved). s.header) (sym (saved_stays c x (pauses 1))) ∙ u.same;
+                same = sym (saved_stays c x (pauses 1)) ∙ u.same;
               });
         })
         (subst (λ (n : ℕ). Beside z p (passes c x n) (passes c x (pauses 1))) (sym (ticks_first pauses)) (itself z p (passes c x (pauses 1))))

@@ -1,5 +1,5 @@
 -- Each test of judging is true exactly if 01's words hold (`specs/Rules.antt`). Assumes nothing.
-use Rattle.std.specs.Prelude.{Some, None}
+use Rattle.std.specs.Prelude.{Some, None, Option}
 use Prim.Native.Nat.{ℕ, ◌+◌, ◌<◌}
 use mathlib.Core.Path.{◌≡◌, refl, sym, ap, ◌∙◌}
 use mathlib.Core.Bool.{Bool, true, false, not, ◌&&◌, ◌||◌, beq, false≢true}
@@ -31,7 +31,7 @@ use Rattle.exchange.specs.Exchange.{own_place, incoming_place}
 use Rattle.exchange.specs.Judge.{is_misrouted, is_saved, is_duplicate}
 use Rattle.exchange.specs.Rules.{Fours, Duplicate, New, IsAwaited, out, acked, OfReply, first, further, OfMessage, goes_on_lem, Begins, ReplyHere, MessageHere, Expected, AlikeHere, AlikeAt, FreeHere, FreeAt, HasPlace, LowestAt}
 use Rattle.exchange.specs.declared.Exchange.{Exchange}
-use Rattle.exchange.proofs.Alike.{same_refl, same_eq}
+use Rattle.exchange.proofs.Alike.{same_refl, same_eq, bytes_saved}
 use Rattle.exchange.proofs.Finding.{found, somewhere, lowest, nowhere}
 
 -- ---- rules 1 and 2
@@ -47,14 +47,19 @@ routed c b = (
   λ q. (both (eqb b.device c.device) (beq b.r c.host)).1 (eq-eqb _ _ q.device, (same_bits b.r c.host).1 q.r),
 )
 
+-- these bytes are saved
+saved_exactly : (s : Option (List ℕ)) (h : List ℕ) → is_saved s h ≡ true ↔ (s ≡ Some h)
+unfolding is_saved
+saved_exactly None h = (λ e. absurd (false≢true e), λ e. cc)
+saved_exactly (Some s) h = (λ e. ap Some (same_eq s h e), λ e. rw (ap (λ (o : Option (List ℕ)). bytes_saved o) e) (same_refl h))
+
 pub duplicate : (c : Terms) (x : Exchange) (h : List ℕ) → is_duplicate c x h ≡ true ↔ Duplicate c x h
 unfolding is_duplicate is_saved
 duplicate c x h = (
   λ t.
       let w = (both c.duplicates _).0 t in
-      let v = (both x.saved.any _).0 w.1 in
-      record { check = w.0; any = v.0; same = same_eq _ _ v.1 },
-  λ u. (both c.duplicates _).1 (u.check, (both x.saved.any _).1 (u.any, rw u.same (same_refl h))),
+      record { check = w.0; same = (saved_exactly x.saved h).0 w.1 },
+  λ u. (both c.duplicates _).1 (u.check, (saved_exactly x.saved h).1 u.same),
 )
 
 -- what is asked of a block by 1 and 2

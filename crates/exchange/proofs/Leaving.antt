@@ -1,5 +1,5 @@
 -- What judging leaves, and the place of a new primary (`specs/Rules.antt`). Assumes nothing.
-use Rattle.std.specs.Prelude.{Option}
+use Rattle.std.specs.Prelude.{Option, Some}
 use Prim.Native.Nat.{ℕ, ◌≤◌}
 use mathlib.Core.Path.{◌≡◌, refl, sym, ap, ◌∙◌}
 use mathlib.Core.Bool.{Bool, true, false, cond, not, ◌||◌, false≢true}
@@ -123,7 +123,7 @@ module _ (c : Terms) (x : Exchange) (h d room : List ℕ) where
   -- by a block of a message that has its place, or gets one
   by_block :
       (j : Judging) (f : Fate) (m : Message) (have : ℕ) → noted j ≡ note_number (note_by f)
-      → j.answer.exchange.saved ≡ record { any = true; header = h } → j.room ≡ keep_by f room m have d → Leaves c x h room j
+      → j.answer.exchange.saved ≡ Some h → j.room ≡ keep_by f room m have d → Leaves c x h room j
   by_block j f m have note saved kept = record {
     misrouted = λ e. absurd (no_rule f 22 (omega arith) (omega arith) (sym note ∙ e));
     duplicate = λ e. absurd (no_rule f 23 (omega arith) (omega arith) (sym note ∙ e));

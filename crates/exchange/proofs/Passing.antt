@@ -230,7 +230,7 @@ abbrev pub put_block : (z : Side) → Exchange → List ℕ → ℕ → Place z 
 put_block z y h p o latest = record {
   own = owns_by z y.own p o;
   incoming = incomings_by z y.incoming p o;
-  saved = record { any = true; header = h };
+  saved = Some h;
   numbers = record { last = y.numbers.last; latest = latest };
   sending = y.sending;
   reports = y.reports;

@@ -1,4 +1,5 @@
 -- The saved header is the one that an onlooker keeps, and rule 2 goes by it (`specs/SavedHeader.antt`). Assumes nothing.
+use Rattle.std.specs.Prelude.{Option, Some, None}
 use Prim.Native.Nat.{ℕ}
 use mathlib.Core.Path.{◌≡◌, refl, sym, ap, ◌∙◌, subst}
 use mathlib.Core.Bool.{Bool, true, false, ◌||◌, false≢true}
@@ -19,13 +20,13 @@ use Rattle.exchange.specs.Judge.{judge_of}
 use Rattle.exchange.specs.Rules.{Fours, Duplicate, Ruled, duplicate, noted}
 use Rattle.exchange.specs.History.{Call, block, tick, put_out, acknowledged, failed, request, Track, track, at_start}
 use Rattle.exchange.specs.SavedHeader.{SavedSeen, none, ten, saved_by, saved_sees, saved_watch, IsSaved, SavedOn, RepeatsOn, SavedExactly}
-use Rattle.exchange.specs.declared.Saved.{Saved}
 use Rattle.exchange.specs.declared.Sending.{Sending}
 use Rattle.exchange.specs.declared.Sending.TheVariants as sending
 use Rattle.exchange.specs.declared.Exchange.{Exchange}
 use Rattle.exchange.proofs.Notes.{notes_exactly}
 use Rattle.exchange.proofs.Leaving.{judge_leaves}
 use Rattle.exchange.proofs.Cases.{by_request}
+use Rattle.exchange.proofs.Alike.{bytes_saved}
 use Rattle.exchange.proofs.Runs.{reached_more, reached_fresh, four_places, sound_fresh, sound_reached, run_any}
 
 -- ---- one call
@@ -78,8 +79,8 @@ by_saved P n s h stays saves =
     chosen P (eqb n 22 || eqb n 23) s (ten h) (λ e. stays ((noted_so n).0 e)) (λ e. saves (λ i. false≢true (sym e ∙ (noted_so n).1 i)))
 
 -- where it is as it was
-stays : (s : SavedSeen) (v w : Saved) → v ≡ w → IsSaved w s → IsSaved v s
-stays s v w e i = subst (λ (z : Saved). IsSaved z s) (sym e) i
+stays : (s : SavedSeen) (v w : Option (List ℕ)) → v ≡ w → IsSaved w s → IsSaved v s
+stays s v w e i = subst (λ (z : Option (List ℕ)). IsSaved z s) (sym e) i
 
 pub saved_on : SavedOn
 saved_on c x room s (block h d) w =
@@ -87,7 +88,7 @@ saved_on c x room s (block h d) w =
     let l = judge_leaves c x h d room in
     by_saved (IsSaved j.answer.exchange.saved) (noted j) s h
     (⊎_elim (λ e. stays s _ _ (l.misrouted e).saved w) (λ e. stays s _ _ (l.duplicate e).saved w))
-    (λ n. let e = l.saves (λ a. n (inl a)) (λ a. n (inr a)) in (ap (λ (v : Saved). v.any) e, ap (λ (v : Saved). v.header) e))
+    (λ n. l.saves (λ a. n (inl a)) (λ a. n (inr a)))
 saved_on c x room s tick w = stays s _ _ (tick_saves c x) w
 saved_on c x room s put_out w = stays s _ _ (put_out_saves x.sending x) w
 saved_on c x room s acknowledged w = stays s _ _ (sent_saves x.sending x) w
@@ -96,18 +97,14 @@ saved_on c x room s (request r) w = stays s _ _ (request_saves c x room r) w
 
 -- ---- rule 2
 
-abbrev any : SavedSeen → Bool
-any none = false
-any (ten h) = true
-
-abbrev bytes : SavedSeen → List ℕ
-bytes none = []
-bytes (ten h) = h
+abbrev kept : SavedSeen → Option (List ℕ)
+kept none = None
+kept (ten h) = Some h
 
 -- what is saved is this, exactly if it is what the onlooker keeps
-saved_same : (v : Saved) (s : SavedSeen) (h : List ℕ) → IsSaved v s → ((v.any ≡ true) × (v.header ≡ h)) ↔ (s ≡ ten h)
-saved_same v none h w = (λ e. absurd (false≢true (sym w ∙ e.0)), λ e. absurd (false≢true (ap any e)))
-saved_same v (ten g) h w = (λ e. ap ten (sym w.1 ∙ e.1), λ e. (w.0, w.1 ∙ ap bytes e))
+saved_same : (v : Option (List ℕ)) (s : SavedSeen) (h : List ℕ) → IsSaved v s → (v ≡ Some h) ↔ (s ≡ ten h)
+saved_same v none h w = (λ e. let z : None ≡ Some h = sym w ∙ e in cc, λ e. w ∙ ap kept e)
+saved_same v (ten g) h w = (λ e. ap (λ (s : Option (List ℕ)). ten (bytes_saved s)) (sym w ∙ e), λ e. w ∙ ap kept e)
 
 ruled_duplicate : {c : Terms} {x : Exchange} {h d : List ℕ} → Ruled c x h d 23 → Routed c (header_of h) × Duplicate c x h
 ruled_duplicate (duplicate q s) = (q, s)
@@ -116,8 +113,8 @@ pub repeats_on : RepeatsOn
 repeats_on c x four s w h d room =
     let same = saved_same x.saved s h w in
     let rule = notes_exactly c x h d room four 23 in (
-      λ e. let q = ruled_duplicate (rule.0 e) in record { routed = q.0; check = q.1.check; same = same.0 (q.1.any, q.1.same) },
-      λ r. let q = same.1 r.same in rule.1 (duplicate r.routed (record { check = r.check; any = q.0; same = q.1 })),
+      λ e. let q = ruled_duplicate (rule.0 e) in record { routed = q.0; check = q.1.check; same = same.0 q.1.same },
+      λ r. rule.1 (duplicate r.routed (record { check = r.check; same = same.1 r.same })),
     )
 
 -- ---- any calls

@@ -1,5 +1,5 @@
 -- Each call raises the flags of what it does to the places. Assumes nothing.
-use Rattle.std.specs.Prelude.{None}
+use Rattle.std.specs.Prelude.{None, Some}
 use Prim.Native.Nat.{ℕ, zero, suc, ◌≤◌, ◌<◌}
 use mathlib.Core.Path.{◌≡◌, refl, sym, ap, ◌∙◌, subst}
 use mathlib.Core.Bool.{Bool, true, false, false≢true}
@@ -172,7 +172,7 @@ module _ (c : Terms) (x : Exchange) (four : Fours x) (h d : List ℕ) where
       (begun_at b d i.header i.stage
       (λ a.
       let raised = incoming_flags p (last_by (fate_of b 0 (length d))) gone in
-      let y : Exchange = record { own = x.own; incoming = set x.incoming p a; saved = record { any = true; header = h }; numbers = x.numbers; sending = x.sending; reports = x.reports } in
+      let y : Exchange = record { own = x.own; incoming = set x.incoming p a; saved = Some h; numbers = x.numbers; sending = x.sending; reports = x.reports } in
       Forced T raised → Flagged x y T raised)
       w.1
       (incoming_flagged x _ T p _ _ gone four.incoming refl refl (begun_complete i (open_incomplete i.stage w.1) b (fate_of b 0 (length d)) (ap spoilt_by e ∙ s))

@@ -1,6 +1,7 @@
 -- Ticks of which nothing is reported (02, request 2: "verdict 6 gives S9F9"): T3 runs out at no own place, or the unit is a host. They leave
 -- the last number given, what is being sent and the reports that wait. And ticks of which something is: what they leave of these does not
 -- hang on the incoming places. Assumes nothing.
+use Rattle.std.specs.Prelude.{None}
 use Prim.Native.Nat.{ℕ, zero, suc, ◌+◌, ◌≤◌, ◌<◌}
 use mathlib.Core.Path.{◌≡◌, refl, sym, ap, subst, ◌∙◌}
 use mathlib.Core.Bool.{false, false≢true}
@@ -132,7 +133,7 @@ abbrev pub beyond : Exchange → Exchange
 beyond x = record {
   own = x.own;
   incoming = [];
-  saved = record { any = false; header = [] };
+  saved = None;
   numbers = x.numbers;
   sending = x.sending;
   reports = x.reports;

@@ -2,7 +2,7 @@
 -- them, by any transactions that can take it, whatever else is in their places (01, "Block and header": "each block but the last carries 244
 -- data bytes; numbers start at 1; only the last has E = 1; all else in the header is the same in each"; "Messages": "After 2, 3 or 4, or
 -- once an incoming message is complete, its area begins with the data of the kept blocks joined"). Each proof is in `proofs/`.
-use Rattle.std.specs.Prelude.{ℕ, zero, suc, ◌+◌, ◌-◌, ◌%◌, ◌≤◌, ◌<◌, ◌≡◌, Bool, true, false, List, [], ◌∷◌, ◌++◌, ◌≢◌, length, replicate}
+use Rattle.std.specs.Prelude.{ℕ, zero, suc, ◌+◌, ◌-◌, ◌%◌, ◌≤◌, ◌<◌, ◌≡◌, Bool, true, false, List, [], ◌∷◌, ◌++◌, ◌≢◌, length, replicate, Some}
 use Rattle.wire.specs.Message.{message_limit}
 use Rattle.header.specs.Header.{InRange, header_bytes}
 use Rattle.header.specs.Theorems.{SameElse}
@@ -150,7 +150,7 @@ pub record Assembled (c : Terms) (pauses : ℕ → ℕ) (x : Exchange) (h : Head
   pub outbox : SameOutbox (ticks_alone c pauses d x) r.exchange
   pub unreported : NoneLate c x (ticks_before pauses (block_count (length d))) AnyPlace → SameOutbox x r.exchange
   -- what is saved is the header of its last block
-  pub saved : r.exchange.saved ≡ record { any = true; header = header_in h d (block_count (length d)) }
+  pub saved : r.exchange.saved ≡ Some (header_in h d (block_count (length d)))
 
 -- For every primary to this link of 0 to 4,096 bytes, the blocks that are cut from it, judged in order by whatever transactions any
 -- calls left, if these can take it, complete it with the same bytes, stream, function, W and system bytes, whether the duplicate check is
@@ -210,7 +210,7 @@ pub record ReplyAssembled (c : Terms) (pauses : ℕ → ℕ) (v : Verdict) (x : 
       sent_from x.sending p ≡ true → x.reports.count ≡ 0 → NoneLate c x (ticks_before pauses (block_count (length d))) (λ q. q ≢ p)
       → r.exchange.sending ≡ Nothing
   -- what is saved is the header of its last block
-  pub saved : r.exchange.saved ≡ record { any = true; header = header_in h d (block_count (length d)) }
+  pub saved : r.exchange.saved ≡ Some (header_in h d (block_count (length d)))
 
 -- The header h of a reply to a primary with header g: the same device ID and system bytes (E4 7.3.1, 6.8.2). "in a received one W may
 -- be either".

@@ -1,5 +1,5 @@
 -- The state of the transactions, and what changes one part of it.
-use Rattle.std.specs.Prelude.{ℕ, Bool, true, false, cond, not, ◌&&◌, List, eqb, replicate}
+use Rattle.std.specs.Prelude.{ℕ, Bool, true, false, cond, not, ◌&&◌, List, eqb, replicate, None, Some}
 use Rattle.place.specs.Own.{fresh_own, own_has_verdict}
 use Rattle.place.specs.Incoming.{fresh_incoming}
 use Rattle.place.specs.declared.Own.{Own}
@@ -16,7 +16,7 @@ abbrev pub fresh_exchange : ℕ → Exchange
 fresh_exchange last = record {
   own = replicate 4 fresh_own;
   incoming = replicate 4 fresh_incoming;
-  saved = record { any = false; header = replicate 10 0 };
+  saved = None;
   numbers = record { last = last; latest = 0 };
   sending = sending.Nothing;
   reports = no_reports;
@@ -83,7 +83,7 @@ unfoldable pub saved_now : Exchange → List ℕ → Exchange
 saved_now x h = record {
   own = x.own;
   incoming = x.incoming;
-  saved = record { any = true; header = h };
+  saved = Some h;
   numbers = x.numbers;
   sending = x.sending;
   reports = x.reports;

@@ -24,7 +24,6 @@ use Rattle.exchange.specs.Reports.{with_outbox, caused, freed_in}
 use Rattle.exchange.specs.declared.Outbox.{Outbox}
 use Rattle.exchange.specs.declared.Note.{Note}
 use Rattle.exchange.specs.declared.Note.TheVariants.{Kept, Misrouted, Duplicate, Stray, NoPlace, TooLong, Empty}
-use Rattle.exchange.specs.declared.Saved.{Saved}
 use Rattle.exchange.specs.declared.Sending.{Sending}
 use Rattle.exchange.specs.declared.Exchange.{Exchange}
 use Rattle.exchange.specs.declared.Judged.{Judged}
@@ -58,8 +57,9 @@ same_bytes (a ∷ xs) [] = false
 same_bytes (a ∷ xs) (b ∷ bs) = eqb a b && same_bytes xs bs
 
 -- "(none at a start)"
-unfoldable pub is_saved : Saved → List ℕ → Bool
-is_saved s h = s.any && same_bytes s.header h
+unfoldable pub is_saved : Option (List ℕ) → List ℕ → Bool
+is_saved None h = false
+is_saved (Some s) h = same_bytes s h
 
 -- 2: "Duplicate check on and all ten bytes of the header equal the saved one"
 unfoldable pub is_duplicate : Terms → Exchange → List ℕ → Bool

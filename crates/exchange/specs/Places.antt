@@ -1,6 +1,6 @@
 -- What a user reads of a place, exactly when: that there is none, and that a reply to its message is owed. Of any state of the
 -- transactions, and of any place number. And what a start leaves. The proofs are in `proofs/Places.antt`.
-use Rattle.std.specs.Prelude.{ℕ, ◌<◌, ◌≡◌, true, false, [], ◌↔◌, ◌⊎◌}
+use Rattle.std.specs.Prelude.{ℕ, ◌<◌, ◌≡◌, true, false, [], ◌↔◌, ◌⊎◌, None}
 use Rattle.place.specs.Own.{own_standing}
 use Rattle.place.specs.Incoming.{primary_of}
 use Rattle.place.specs.IncomingHistory.{nothing, shows}
@@ -54,7 +54,7 @@ pub record Fresh (told : ℕ) (x : Exchange) : Type 0 where
   pub own : (p : ℕ) → own_reading x p ≡ reading.NoPlace
   pub incoming : (p : ℕ) → incoming_reading x p ≡ arrival.NoPlace
   -- rule 2: "the saved one (none at a start)"
-  pub none_saved : x.saved.any ≡ false
+  pub none_saved : x.saved ≡ None
   -- no message is being sent
   pub sending : x.sending ≡ sending.Nothing
   -- "last transaction number | 0 to 65535; 0 if none is kept": the number that the start is told of is the last given

@@ -60,8 +60,7 @@ pub record LowestAt (P : ℕ → Type 0) (p : ℕ) : Type 0 where
 -- "Duplicate check on and all ten bytes of the header equal the saved one (none at a start)"
 pub record Duplicate (c : Terms) (x : Exchange) (h : List ℕ) : Type 0 where
   pub check : c.duplicates ≡ true
-  pub any : x.saved.any ≡ true
-  pub same : x.saved.header ≡ h
+  pub same : x.saved ≡ Some h
 
 -- a block that passed 1 and 2
 pub record New (c : Terms) (x : Exchange) (h : List ℕ) : Type 0 where
@@ -191,7 +190,7 @@ abbrev pub only_saved : Exchange → List ℕ → Exchange
 only_saved x h = record {
   own = x.own;
   incoming = x.incoming;
-  saved = record { any = true; header = h };
+  saved = Some h;
   numbers = x.numbers;
   sending = x.sending;
   reports = x.reports;
@@ -214,7 +213,7 @@ pub record Leaves (c : Terms) (x : Exchange) (h room : List ℕ) (j : Judging) :
   -- 2: "note 23; no timer, place or byte of room changes."
   pub duplicate : noted j ≡ 23 → Untouched x room j
   -- 2: "Otherwise the header is saved, even if the block is thrown out below."
-  pub saves : noted j ≢ 22 → noted j ≢ 23 → j.answer.exchange.saved ≡ record { any = true; header = h }
+  pub saves : noted j ≢ 22 → noted j ≢ 23 → j.answer.exchange.saved ≡ Some h
   -- 3 and 6: nothing else changes
   pub stray : noted j ≡ 24 → Untouched (only_saved x h) room j
   pub no_place : noted j ≡ 25 → Untouched (only_saved x h) room j
@@ -284,7 +283,7 @@ abbrev pub incoming_behind : Exchange → List ℕ → ℕ → Incoming → Exch
 incoming_behind x h p i = record {
   own = x.own;
   incoming = incoming_put x.incoming p i;
-  saved = record { any = true; header = h };
+  saved = Some h;
   numbers = x.numbers;
   sending = x.sending;
   reports = x.reports;
@@ -300,7 +299,7 @@ abbrev pub own_behind : Exchange → List ℕ → ℕ → OwnStage → ℕ → E
 own_behind x h p s latest = record {
   own = own_put x.own p (record { header = (own_place x p).header; stage = s });
   incoming = x.incoming;
-  saved = record { any = true; header = h };
+  saved = Some h;
   numbers = record { last = x.numbers.last; latest = latest };
   sending = cond (sent_from x.sending p) Nothing x.sending;
   reports = x.reports;

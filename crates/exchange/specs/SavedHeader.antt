@@ -1,6 +1,6 @@
 -- The header that is saved for rule 2 (01, "Messages"), over every list of calls from a fresh start. An onlooker keeps one too, by what is
 -- called and answered alone, and rule 2 goes by that one. Each proof is in `proofs/SavedHeader.antt`.
-use Rattle.std.specs.Prelude.{ℕ, ◌≡◌, true, false, cond, ◌||◌, List, ◌↔◌, eqb, length}
+use Rattle.std.specs.Prelude.{ℕ, ◌≡◌, true, false, cond, ◌||◌, List, ◌↔◌, eqb, length, Option, Some, None}
 use Rattle.header.specs.Header.{header_of}
 use Rattle.settings.specs.declared.terms.Terms.{Terms}
 use Rattle.place.specs.Message.{Routed}
@@ -8,7 +8,6 @@ use Rattle.exchange.specs.Judge.{judge_of}
 use Rattle.exchange.specs.Rules.{Fours, noted}
 use Rattle.exchange.specs.History.{Call, block, tick, put_out, acknowledged, failed, request, called, track, at_start}
 use Rattle.exchange.specs.Watching.{watch}
-use Rattle.exchange.specs.declared.Saved.{Saved}
 use Rattle.exchange.specs.declared.Exchange.{Exchange}
 
 -- ---- what the onlooker keeps
@@ -38,9 +37,9 @@ saved_watch c last room ks = watch c (saved_sees c) (at_start last room) none ks
 -- ---- what the state saves
 
 -- it is this one
-abbrev pub IsSaved : Saved → SavedSeen → Type 0
-IsSaved v none = v.any ≡ false
-IsSaved v (ten h) = (v.any ≡ true) × (v.header ≡ h)
+abbrev pub IsSaved : Option (List ℕ) → SavedSeen → Type 0
+IsSaved v none = v ≡ None
+IsSaved v (ten h) = v ≡ Some h
 
 -- where it is the one that the onlooker keeps, so it is after any call more
 abbrev pub SavedOn : Type 0

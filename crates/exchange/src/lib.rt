@@ -16,17 +16,11 @@ use reports::Reports;
 pub struct Exchange {
     pub own: [Own; 4],
     pub incoming: [Incoming; 4],
-    pub saved: Saved,
+    // The header of the block that came last and was no duplicate (E4 7.4.2), if any is saved; "none at a start".
+    pub saved: Option<[u8; 10]>,
     pub numbers: Numbers,
     pub sending: Sending,
     pub reports: Reports,
-}
-
-// The header of the block that came last and was no duplicate (E4 7.4.2), if any is saved; "none at a start".
-#[derive(Clone, Copy)]
-pub struct Saved {
-    pub any: bool,
-    pub header: [u8; 10],
 }
 
 // Transaction numbers: the last one given, and that of the latest own transaction to get a verdict. 0 is no number.

@@ -1,6 +1,6 @@
 -- The refusals of the unit's calls: the rows 1 to 4 of 01's table in its words, those of the transactions (5 to 11, exchange's
 -- `specs/Refusals.antt`) behind them, in 01's order; what a refused call leaves; and what a call writes. Each proof is in `proofs/`.
-use Rattle.std.specs.Prelude.{ℕ, ◌*◌, ◌≤◌, ◌<◌, ◌≡◌, Bool, true, false, not, List, ◌↔◌, ◌≢◌, eqb, length, take, drop}
+use Rattle.std.specs.Prelude.{ℕ, ◌*◌, ◌≤◌, ◌<◌, ◌≡◌, Bool, true, false, not, List, ◌↔◌, ◌≢◌, eqb, length, take, drop, None}
 use Rattle.wire.specs.Bytes.{part}
 use Rattle.cut.specs.Blocks.{most_blocks}
 use Rattle.header.specs.Header.{first_ten, header_of}
@@ -264,7 +264,7 @@ pub record Started (s : Setup) (a : Answer) : Type 0 where
   -- one of the settings, and none of an own transaction with a verdict is passed over; the line is idle, and no block is held
   pub no_own : (p : ℕ) → own_of a.link p ≡ reading.NoPlace
   pub no_incoming : (p : ℕ) → incoming_of a.link p ≡ arrival.NoPlace
-  pub none_saved : a.link.exchange.saved.any ≡ false
+  pub none_saved : a.link.exchange.saved ≡ None
   pub none_sent : a.link.exchange.sending ≡ sending.Nothing
   pub last : a.link.exchange.numbers.last ≡ s.last
   pub latest : a.link.exchange.numbers.latest ≡ 0

@@ -2,7 +2,7 @@
 -- idle, on a line that loses nothing: what is accepted for sending at either end is complete at the other with the same bytes, stream,
 -- function, W and system bytes, and so is the reply to it, by the units' own calls, byte for byte, with ticks between the bytes as long
 -- as no timer runs out. Each proof is in `proofs/`.
-use Rattle.std.specs.Prelude.{ℕ, zero, suc, ◌+◌, ◌*◌, ◌≤◌, ◌<◌, ◌≡◌, true, false, cond, not, List, [], ◌∷◌, ◌++◌, ◌≢◌, length, take, replicate}
+use Rattle.std.specs.Prelude.{ℕ, zero, suc, ◌+◌, ◌*◌, ◌≤◌, ◌<◌, ◌≡◌, true, false, cond, not, List, [], ◌∷◌, ◌++◌, ◌≢◌, length, take, replicate, Option, Some}
 use Rattle.wire.specs.Bytes.{Bytes}
 use Rattle.header.specs.Header.{InRange}
 use Rattle.header.specs.Theorems.{SameElse}
@@ -23,7 +23,6 @@ use Rattle.exchange.specs.declared.IncomingReading.TheVariants as incoming
 use Rattle.exchange.specs.declared.ReplyStage.{ReplyStage}
 use Rattle.exchange.specs.declared.ReplyStage.TheVariants as reply
 use Rattle.exchange.specs.declared.Primary.{Primary}
-use Rattle.exchange.specs.declared.Saved.{Saved}
 use Rattle.link.specs.Answer.{note_number}
 use Rattle.link.specs.Run.{Left}
 use Rattle.link.specs.Call.{byte_call, tick_call, drained_call, open_call, reply_call}
@@ -286,7 +285,7 @@ later_by o u room n = (waits o (end_of u room) n).end.link
 
 -- Primary q with data d and header h came from own place p of its sender to its receiver; `was` is what its sender had saved, `alone` what
 -- ticks alone leave of the receiver.
-pub record Delivered (o : List ℕ) (q : Primary) (d : List ℕ) (h : Header) (p : ℕ) (was : Saved) (alone : Link) (z : Pair) : Type 0 where
+pub record Delivered (o : List ℕ) (q : Primary) (d : List ℕ) (h : Header) (p : ℕ) (was : Option (List ℕ)) (alone : Link) (z : Pair) : Type 0 where
   pub quiet : Quiet z
   pub again : Again o z.sender z.receiver
   -- own place p of its sender has it: a reply is awaited, or "1 sent (W = 0, all acknowledged)"
@@ -307,7 +306,7 @@ pub record Delivered (o : List ℕ) (q : Primary) (d : List ℕ) (h : Header) (p
   pub others : (k : ℕ) → k ≢ place → incoming_of z.receiver.link k ≡ incoming_of alone k
   pub owns : (k : ℕ) → own_of z.receiver.link k ≡ own_of alone k
   -- what each end holds the next block against (rule 2): its receiver the header of the last block, its sender what it had
-  pub saved : z.receiver.link.exchange.saved ≡ record { any = true; header = header_in h d (block_count (length d)) }
+  pub saved : z.receiver.link.exchange.saved ≡ Some (header_in h d (block_count (length d)))
   pub far_saved : z.sender.link.exchange.saved ≡ was
 
 -- A primary that was accepted for own place p goes out from a to b.
@@ -336,7 +335,7 @@ pub record TypedReply (f : ℕ) (r : List ℕ) : Type 0 where
 -- Reply r with function f came from incoming place p of its sender to own place q of its receiver, where it earned verdict v: the message
 -- in place p has header g and n bytes, bs, the primary in place q header h, the reply header e; `was` is what its sender had saved, `alone` what
 -- ticks alone leave of the receiver.
-pub record Returned (o : List ℕ) (v : Verdict) (p q f : ℕ) (r : List ℕ) (g h e : Header) (n : ℕ) (bs : List ℕ) (was : Saved) (alone : Link) (z : Pair) : Type 0 where
+pub record Returned (o : List ℕ) (v : Verdict) (p q f : ℕ) (r : List ℕ) (g h e : Header) (n : ℕ) (bs : List ℕ) (was : Option (List ℕ)) (alone : Link) (z : Pair) : Type 0 where
   pub quiet : Quiet z
   pub again : Again o z.receiver z.sender
   -- own place q shows the primary, the verdict, and the stream, function and length of the reply; "A reply of ours has W = 0"
@@ -352,7 +351,7 @@ pub record Returned (o : List ℕ) (v : Verdict) (p q f : ℕ) (r : List ℕ) (g
   pub others : (k : ℕ) → k ≢ q → own_of z.receiver.link k ≡ own_of alone k
   pub incomings : (k : ℕ) → incoming_of z.receiver.link k ≡ incoming_of alone k
   -- and what each end holds the next block against
-  pub saved : z.receiver.link.exchange.saved ≡ record { any = true; header = header_in e r (block_count (length r)) }
+  pub saved : z.receiver.link.exchange.saved ≡ Some (header_in e r (block_count (length r)))
   pub far_saved : z.sender.link.exchange.saved ≡ was
 
 -- A reply comes back from b to a: with function f to the message with header g in incoming place p of b, which a sent as the primary with

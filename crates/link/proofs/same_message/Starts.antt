@@ -1,4 +1,5 @@
 -- Two units that were just started are two ends of a link (`specs/SameMessage.antt`). Assumes nothing.
+use Rattle.std.specs.Prelude.{Option, Some, None}
 use Prim.Native.Nat.{ℕ, zero, suc}
 use mathlib.Core.Path.{◌≡◌, refl, sym, ◌∙◌}
 use mathlib.Core.Bool.{false, false≢true}
@@ -47,6 +48,6 @@ starts_linked s t fits far_fits last far_last roles device room far whole far_wh
   takes = λ h d. record {
     free = record { place = 0; within = omega arith; so = refl };
     no_alike = none_alike t.last h;
-    new = λ w. false≢true w.any;
+    new = λ w. (let z : ◌≡◌ {A = Option (List ℕ)} None (Some (header_in h d 1)) = w.same in cc);
   };
 }
