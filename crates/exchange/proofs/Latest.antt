@@ -27,7 +27,7 @@ use Rattle.table.proofs.Tables.{own_table}
 use Rattle.exchange.specs.Exchange.{own_place, put_own, put_incoming, with_sending}
 use Rattle.exchange.specs.Tick.{passed_of, tick_of}
 use Rattle.exchange.specs.Send.{ended_own, ended_reply, ended_report, failed_by, failed_of}
-use Rattle.exchange.specs.Reading.{own_reading}
+use Rattle.exchange.specs.Reading.{own_reading, reads_own}
 use Rattle.exchange.specs.Rules.{Fours}
 use Rattle.exchange.specs.Reports.{same_message}
 use Rattle.exchange.specs.Request.{sending_by}
@@ -36,7 +36,6 @@ use Rattle.exchange.specs.History as exchange
 use Rattle.exchange.specs.Numbers.{number_shown, by_line, by_place, gets, NumbersSeen, highest, latest_seen, last_started, last_reported, numbers_sees, NumbersAre, StartsReport, in_use, NumberNew}
 use Rattle.exchange.specs.Reporting.{is_six}
 use Rattle.exchange.specs.declared.OwnReading.{OwnReading}
-use Rattle.exchange.specs.declared.OwnReading.TheVariants.{NoPlace, Place}
 use Rattle.exchange.specs.declared.Sending.{Sending}
 use Rattle.exchange.specs.declared.Sending.TheVariants as sending
 use Rattle.exchange.specs.declared.Exchange.{Exchange}
@@ -111,7 +110,7 @@ failed_steps c h (stage.Replying a) = same_steps c _
 failed_steps c h (stage.Done v r) = same_steps c _
 
 -- what is read alike gives the same latest
-highest_alike : (kind : Verdict → Bool) (f g v w : ℕ → OwnReading) (n : ℕ) → ((k : ℕ) → k < 4 → gets kind (f k) (g k) ≡ gets kind (v k) (w k))
+highest_alike : (kind : Verdict → Bool) (f g v w : ℕ → Option OwnReading) (n : ℕ) → ((k : ℕ) → k < 4 → gets kind (f k) (g k) ≡ gets kind (v k) (w k))
     → ((k : ℕ) → k < 4 → number_shown (g k) ≡ number_shown (w k)) → highest kind f g n ≡ highest kind v w n
 unfolding highest
 highest_alike kind f g v w n same number =
@@ -167,7 +166,7 @@ module _ (c : Terms) (x : Exchange) (four : Fours x) (next_four : Fours (failed_
   -- the tick leaves the numbers of places in use
   held_shown : (o : Own) → held_number o ≡ number_shown (read o)
   unfolding held_number number_of
-  held_shown o = either (own_is_free o) (λ t. cond t 0 (number_of o) ≡ number_shown (cond t NoPlace (Place (primary_of o) (own_standing o) (own_kept o)))) (λ e. refl) (λ e. refl)
+  held_shown o = either (own_is_free o) (λ t. cond t 0 (number_of o) ≡ number_shown (cond t None (reads_own (primary_of o) (own_standing o) (own_kept o)))) (λ e. refl) (λ e. refl)
 
   held_on : (os : List Own) → map held_number (map (own_tick c) os) ≡ map held_number os
   held_on [] = refl

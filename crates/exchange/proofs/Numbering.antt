@@ -1,6 +1,6 @@
 -- The numbers that the state keeps are those that an onlooker keeps; and what one call does to each of them (`specs/Numbers.antt`). Assumes
 -- nothing.
-use Rattle.std.specs.Prelude.{Ok, Err}
+use Rattle.std.specs.Prelude.{Ok, Err, None, Option, Some}
 use Prim.Native.Nat.{ℕ, zero, suc, ◌%◌, ◌≤◌, ◌<◌}
 use mathlib.Core.Path.{◌≡◌, refl, sym, ap, ◌∙◌, subst}
 use mathlib.Core.Bool.{Bool, true, false, cond, not, ◌&&◌, and-false, false≢true, true≢false}
@@ -38,19 +38,18 @@ use Rattle.exchange.specs.Judge.{thrown, reply_block, message_block, begins_at, 
 use Rattle.exchange.specs.Reports.{outbox_of, same_message}
 use Rattle.exchange.specs.BeingSent.{sending_after}
 use Rattle.exchange.specs.Theorems.{from_caller}
-use Rattle.exchange.specs.Reading.{own_reading}
+use Rattle.exchange.specs.Reading.{own_reading, reads_own}
 use Rattle.exchange.specs.Request.{sending_by, Requesting, refused_by, refused, reply_accepted, Request, primary, reply, freeing_own, freeing_incoming, answer_of}
 use Rattle.exchange.specs.Refusals.{number_given, Opened}
 use Rattle.exchange.specs.Rules.{Fours}
 use Rattle.exchange.specs.History.{Call, block, tick, put_out, acknowledged, failed, request, called, at_start}
-use Rattle.exchange.specs.Numbers.{number_shown, shows, any_verdict, by_line, by_place, gets, NumbersSeen, highest, latest_seen, last_asked, last_started, last_reported, numbers_sees, numbers_at_start, NumbersAre, NumbersKeptOn, NumbersKept, GivesNumber, StartsReport, LastMoves, LastGoes, Got, NotByLine, LatestMoves, LatestGoes, in_use, NumberNew, NumberDistinct, ReportDistinct}
+use Rattle.exchange.specs.Numbers.{number_shown, given, shows, any_verdict, by_line, by_place, gets, NumbersSeen, highest, latest_seen, last_asked, last_started, last_reported, numbers_sees, numbers_at_start, NumbersAre, NumbersKeptOn, NumbersKept, GivesNumber, StartsReport, LastMoves, LastGoes, Got, NotByLine, LatestMoves, LatestGoes, in_use, NumberNew, NumberDistinct, ReportDistinct}
 use Rattle.exchange.specs.declared.Sending.{Sending}
 use Rattle.exchange.specs.declared.Sending.TheVariants as sending
 use Rattle.exchange.specs.declared.Numbers.{Numbers}
 use Rattle.exchange.specs.declared.Changed.{Changed}
 use Rattle.exchange.specs.declared.Exchange.{Exchange}
 use Rattle.exchange.specs.declared.OwnReading.{OwnReading}
-use Rattle.exchange.specs.declared.OwnReading.TheVariants.{NoPlace, Place}
 use Rattle.exchange.specs.declared.Primary.{Primary}
 use Rattle.exchange.proofs.Cases.{by_behind, by_judge, by_request}
 use Rattle.exchange.proofs.Refusing.{lowest_free}
@@ -59,21 +58,25 @@ use Rattle.exchange.proofs.Same.{message_same, message_other, other_message}
 use Rattle.exchange.proofs.Starting.{Box, still, over, begins, freed_on, judged_on, ticked_on}
 use Rattle.exchange.proofs.BeingSent.{request_sends, sending_ends}
 use Rattle.exchange.proofs.Runs.{four_places, sound_fresh, run_any}
+use Rattle.place.specs.declared.Standing.{Standing}
 use Rattle.exchange.specs.Asked.{Asked}
 
 -- ---- one place
 
 -- what is read of it
-abbrev pub read : Own → OwnReading
-read o = cond (own_is_free o) NoPlace (Place (primary_of o) (own_standing o) (own_kept o))
+abbrev pub read : Own → Option OwnReading
+read o = cond (own_is_free o) None (reads_own (primary_of o) (own_standing o) (own_kept o))
 
 -- one that stays as it is gets no verdict
-pub same_gets : (kind : Verdict → Bool) (r : OwnReading) → gets kind r r ≡ false
+pub same_gets : (kind : Verdict → Bool) (r : Option OwnReading) → gets kind r r ≡ false
 unfolding gets
-same_gets kind NoPlace = refl
-same_gets kind (Place h Free r) = refl
-same_gets kind (Place h Open r) = refl
-same_gets kind (Place h (Given v) r) = refl
+same_gets kind None = refl
+same_gets kind (Some r) = by r.standing
+  where
+    by : (s : Standing) → not (given any_verdict s) && given kind s ≡ false
+    by Free = refl
+    by Open = refl
+    by (Given v) = refl
 
 -- nor does one that is left without
 open_shows : (kind : Verdict → Bool) (h : List ℕ) (z : OwnStage) → given_by (standing_at z) ≡ false → shows kind (read (record { header = h; stage = z })) ≡ false
@@ -84,7 +87,7 @@ open_shows kind h (stage.Awaiting timer) e = refl
 open_shows kind h (stage.Replying a) e = refl
 open_shows kind h (stage.Done v r) e = absurd (true≢false e)
 
-open_gets : (kind : Verdict → Bool) (r : OwnReading) (o : Own) → own_has_verdict o ≡ false → gets kind r (read o) ≡ false
+open_gets : (kind : Verdict → Bool) (r : Option OwnReading) (o : Own) → own_has_verdict o ≡ false → gets kind r (read o) ≡ false
 unfolding gets
 open_gets kind r o e = ap (λ (t : Bool). not (shows any_verdict r) && t) (open_shows kind o.header o.stage e) ∙ and-false (not (shows any_verdict r))
 
@@ -122,7 +125,7 @@ one_latest a o n = rw (shown a.header a.stage) (after_shown (own_has_verdict a) 
 
 -- ---- four places
 
-module _ (kind : Verdict → Bool) (f g : ℕ → OwnReading) (n : ℕ) where
+module _ (kind : Verdict → Bool) (f g : ℕ → Option OwnReading) (n : ℕ) where
   -- none gets one
   pub highest_none : ((k : ℕ) → k < 4 → gets kind (f k) (g k) ≡ false) → highest kind f g n ≡ n
   unfolding highest
@@ -148,20 +151,20 @@ module _ (kind : Verdict → Bool) (f g : ℕ → OwnReading) (n : ℕ) where
   highest_top (suc (suc (suc (suc q)))) less got none = absurd (omega arith)
 
 -- a place in use shows this number
-pub record Shown (g : ℕ → OwnReading) (n : ℕ) : Type 0 where
+pub record Shown (g : ℕ → Option OwnReading) (n : ℕ) : Type 0 where
   pub place : ℕ
   pub within : place < 4
   pub used : in_use (g place) ≡ true
   pub number : n ≡ number_shown (g place)
 
 -- one that gets a verdict is in use
-gets_used : (kind : Verdict → Bool) (r s : OwnReading) → gets kind r s ≡ true → in_use s ≡ true
+gets_used : (kind : Verdict → Bool) (r s : Option OwnReading) → gets kind r s ≡ true → in_use s ≡ true
 unfolding gets
-gets_used kind r NoPlace e = absurd (false≢true (sym (and-false (not (shows any_verdict r))) ∙ e))
-gets_used kind r (Place h s k) e = refl
+gets_used kind r None e = absurd (false≢true (sym (and-false (not (shows any_verdict r))) ∙ e))
+gets_used kind r (Some k) e = refl
 
 -- so the highest is shown by one, or is as it was
-module _ (kind : Verdict → Bool) (f g : ℕ → OwnReading) (n : ℕ) where
+module _ (kind : Verdict → Bool) (f g : ℕ → Option OwnReading) (n : ℕ) where
   abbrev AsWas : ℕ → Type 0
   AsWas m = (m ≡ n) ⊎ Shown g m
 
@@ -417,7 +420,7 @@ module _ (c : Terms) (x : Exchange) (room : List ℕ) (four : Fours x) where
 
 -- it sends what was asked for, or leaves what is being sent: no report
 no_report : (r : Request) (a : Asked) (z : Sending) (f n : ℕ) → sending_after r a z ≡ sending.Report f n
-    → (z ≡ sending.Report f n) × ((after : ℕ → OwnReading) (last : ℕ) → last_asked r a after last ≡ last)
+    → (z ≡ sending.Report f n) × ((after : ℕ → Option OwnReading) (last : ℕ) → last_asked r a after last ≡ last)
 no_report (primary q d) (Ok p) z f n e = absurd (true≢false (ap from_caller e))
 no_report (reply k g d) (Ok p) z f n e = absurd (true≢false (ap from_caller e))
 no_report (freeing_own k) (Ok p) z f n e = (e, λ after last. refl)
@@ -612,33 +615,39 @@ last_goes c x room four s w (request r) = record {
 -- ---- that of the latest own transaction to get a verdict
 
 -- no verdict is shown before
-none_shown : (r : OwnReading) → ((h : Header) (v : Verdict) (k : Reply) → r ≢ Place h (Given v) k) → shows any_verdict r ≡ false
-none_shown NoPlace none = refl
-none_shown (Place h Free k) none = refl
-none_shown (Place h Open k) none = refl
-none_shown (Place h (Given v) k) none = absurd (none h v k refl)
+none_shown : (r : Option OwnReading) → ((h : Header) (v : Verdict) (k : Reply) → r ≢ reads_own h (Given v) k) → shows any_verdict r ≡ false
+none_shown None none = refl
+none_shown (Some r) none = by r.standing refl
+  where
+    by : (s : Standing) → r.standing ≡ s → given any_verdict s ≡ false
+    by Free e = refl
+    by Open e = refl
+    by (Given v) e = absurd (none r.primary v r.reply (λ i. reads_own r.primary (e i) r.reply))
 
 -- a place that got one gets one of its kind
-got_gets : (kind : Verdict → Bool) (r s : OwnReading) (g : Got r s) → gets kind r s ≡ kind g.verdict
+got_gets : (kind : Verdict → Bool) (r s : Option OwnReading) (g : Got r s) → gets kind r s ≡ kind g.verdict
 unfolding gets
 got_gets kind r s g = ap (λ (t : Bool). not t && shows kind s) (none_shown r g.none_before) ∙ ap (shows kind) g.now
 
 -- one of no such kind
-not_gets : (kind : Verdict → Bool) (r s : OwnReading) → ((g : Got r s) → kind g.verdict ≡ false) → gets kind r s ≡ false
+not_gets : (kind : Verdict → Bool) (r s : Option OwnReading) → ((g : Got r s) → kind g.verdict ≡ false) → gets kind r s ≡ false
 unfolding gets
-not_gets kind r NoPlace none = and-false (not (shows any_verdict r))
-not_gets kind r (Place h Free k) none = and-false (not (shows any_verdict r))
-not_gets kind r (Place h Open k) none = and-false (not (shows any_verdict r))
-not_gets kind r (Place h (Given v) k) none =
-    either (shows any_verdict r) (λ t. not t && kind v ≡ false) (λ e. refl)
-    (λ e.
-    none (record {
-      header = h;
-      verdict = v;
-      reply = k;
-      none_before = λ a b d same. false≢true (sym e ∙ ap (shows any_verdict) same);
-      now = refl;
-    }))
+not_gets kind r None none = and-false (not (shows any_verdict r))
+not_gets kind r (Some q) none = by q.standing refl
+  where
+    by : (z : Standing) → q.standing ≡ z → not (shows any_verdict r) && given kind z ≡ false
+    by Free e = and-false (not (shows any_verdict r))
+    by Open e = and-false (not (shows any_verdict r))
+    by (Given v) e =
+        either (shows any_verdict r) (λ t. not t && kind v ≡ false) (λ e. refl)
+        (λ n.
+        none (record {
+          header = q.primary;
+          verdict = v;
+          reply = q.reply;
+          none_before = λ a b d same. false≢true (sym n ∙ ap (shows any_verdict) same);
+          now = λ i. reads_own q.primary (e i) q.reply;
+        }))
 
 -- its kind, by the two verdicts of the line
 not_by_line : (v : Verdict) → NotByLine v → by_line v ≡ false

@@ -1,4 +1,5 @@
 -- No place is read exactly of a free one, and a reply is owed exactly where the message wants one (`specs/Places.antt`). Assumes nothing.
+use Rattle.std.specs.Prelude.{None}
 use Prim.Native.Nat.{ℕ}
 use mathlib.Core.Path.{◌≡◌, refl, ap}
 use mathlib.Core.Bool.{true, false, false≢true, true≢false}
@@ -24,8 +25,6 @@ use Rattle.exchange.specs.Exchange.{fresh_exchange, own_place, incoming_place}
 use Rattle.exchange.specs.Reading.{own_reading, wanted, incoming_reading, stage_by}
 use Rattle.exchange.specs.Underway.{none, way_at}
 use Rattle.exchange.specs.Places.{NoPlaceExactly, OwedExactly, FreshExactly}
-use Rattle.exchange.specs.declared.OwnReading.TheVariants as read_own
-use Rattle.exchange.specs.declared.IncomingReading.TheVariants as read_incoming
 use Rattle.exchange.specs.declared.ReplyStage.{ReplyStage}
 use Rattle.exchange.specs.declared.ReplyStage.TheVariants.{NotOwed, Owed}
 use Rattle.exchange.proofs.Replies.{read_at}
@@ -37,7 +36,7 @@ clash z = absurd (omega arith)
 
 -- ---- no place
 
-none_own : (h : List ℕ) (z : OwnStage) → (read (record { header = h; stage = z }) ≡ read_own.NoPlace) ↔ (standing_at z ≡ Free)
+none_own : (h : List ℕ) (z : OwnStage) → (read (record { header = h; stage = z }) ≡ None) ↔ (standing_at z ≡ Free)
 none_own h own.Free = (λ e. refl, λ e. refl)
 none_own h own.Sending = (λ e. clash cc, λ e. clash cc)
 none_own h own.PutOut = (λ e. clash cc, λ e. clash cc)
@@ -45,7 +44,7 @@ none_own h (own.Awaiting timer) = (λ e. clash cc, λ e. clash cc)
 none_own h (own.Replying a) = (λ e. clash cc, λ e. clash cc)
 none_own h (own.Done v r) = (λ e. clash cc, λ e. clash cc)
 
-none_incoming : (h : Header) (z : IncomingStage) → (read_at z h ≡ read_incoming.NoPlace) ↔ (shows_at z ≡ nothing)
+none_incoming : (h : Header) (z : IncomingStage) → (read_at z h ≡ None) ↔ (shows_at z ≡ nothing)
 none_incoming h incoming.Free = (λ e. refl, λ e. refl)
 none_incoming h (incoming.Open a) = (λ e. clash cc, λ e. clash cc)
 none_incoming h (incoming.Complete n) = (λ e. clash cc, λ e. clash cc)

@@ -405,7 +405,7 @@ module _ (c : Terms) (x : Exchange) (room : List ℕ) (four : Fours x) (j : Join
   moved_text y (over l e) o same t = absurd (false≢true (ap from_caller (sym e) ∙ t))
   moved_text y (begins r l e h) o same t = absurd (false≢true (ap from_caller (sym e) ∙ t))
 
-  asked_text : (r : Request) (a : Asked) (before : ℕ → IncomingReading) (after : ℕ → OwnReading) (z : Sending) → z ≡ sending_after r a x.sending → from_caller z ≡ true
+  asked_text : (r : Request) (a : Asked) (before : ℕ → Option IncomingReading) (after : ℕ → Option OwnReading) (z : Sending) → z ≡ sending_after r a x.sending → from_caller z ≡ true
       → (joins_asked r a j).outgoing ≡ (post_asked c before after r a s).text
   asked_text (primary q d) (Ok p) before after z e t = refl
   asked_text (reply k f d) (Ok p) before after z e t = refl

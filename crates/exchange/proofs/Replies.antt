@@ -1,4 +1,5 @@
 -- Our reply in an incoming place: on its way while it is being sent, then sent or failed (`specs/Underway.antt`). Assumes nothing.
+use Rattle.std.specs.Prelude.{None, Option}
 use Prim.Native.Nat.{ℕ, ◌<◌}
 use mathlib.Core.Path.{◌≡◌, refl, sym, ap, ◌∙◌}
 use mathlib.Core.Bool.{true, false, cond, not, ◌&&◌, false≢true, true≢false}
@@ -27,7 +28,7 @@ use Rattle.exchange.specs.Exchange.{incoming_place, put_own, put_incoming, with_
 use Rattle.exchange.specs.Tick.{passed_of, tick_of}
 use Rattle.exchange.specs.Send.{put_out_by, ended_own, ended_reply, ended_report, sent_by, failed_by}
 use Rattle.exchange.specs.Judge.{thrown, reply_block, message_block, begins_at, judge_of}
-use Rattle.exchange.specs.Reading.{wanted, reply_stage_at, incoming_reading, stage_by, has_ended}
+use Rattle.exchange.specs.Reading.{wanted, reply_stage_at, incoming_reading, stage_by, has_ended, reads_incoming}
 use Rattle.exchange.specs.Request.{sending_by, is_sending, not_ready, refused_by, refused, claimed_at, reply_accepted, Request, answer_of}
 use Rattle.exchange.specs.Rules.{Fours}
 use Rattle.exchange.specs.BeingSent.{NoneOrReport, none as none', report, Withdrawn, ReportBegins}
@@ -36,7 +37,6 @@ use Rattle.exchange.specs.Watching.{taken_at, reply_from}
 use Rattle.exchange.specs.Underway.{Way, none, onway, sent, failed, end_way, way_at, way, is_onway, way_of, ReplyRead, way_taken, reply_sees, ReplyAt, ReplyWatchedOn, ReplyWatched}
 use Rattle.exchange.specs.declared.ReplyStage.{ReplyStage}
 use Rattle.exchange.specs.declared.IncomingReading.{IncomingReading}
-use Rattle.exchange.specs.declared.IncomingReading.TheVariants as reading
 use Rattle.exchange.specs.declared.Sending.{Sending}
 use Rattle.exchange.specs.declared.Sending.TheVariants as sending
 use Rattle.exchange.specs.declared.Exchange.{Exchange}
@@ -53,9 +53,9 @@ at h z = record { header = h; stage = z }
 
 -- ---- what is read of it
 
-abbrev pub read_at : IncomingStage → Header → IncomingReading
+abbrev pub read_at : IncomingStage → Header → Option IncomingReading
 read_at z h =
-    let i = at h z in cond (free_at z) reading.NoPlace (reading.Place (primary_of i) (length_at z) (not (open_at z)) (reply_stage_at z i))
+    let i = at h z in cond (free_at z) None (reads_incoming (primary_of i) (length_at z) (not (open_at z)) (reply_stage_at z i))
 
 way_at_lem : (h : Header) (z : IncomingStage) → way_of (stage_by (read_at z h)) ≡ way_at z
 unfolding wanted

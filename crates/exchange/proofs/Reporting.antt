@@ -327,7 +327,7 @@ unfolding got_no_reply
 none_got {o} still = same_gets is_six (read o)
 none_got {o} (moved z e n) = gets_six o (stage_at o z) ∙ ap (λ (t : Bool). got_verdict o (stage_at o z) && t) n ∙ and-false (got_verdict o (stage_at o z))
 
-none_shown : (r q : OwnReading) → shows is_six q ≡ false → gets is_six r q ≡ false
+none_shown : (r q : Option OwnReading) → shows is_six q ≡ false → gets is_six r q ≡ false
 unfolding gets
 none_shown r q e = ap (λ (t : Bool). not (shows any_verdict r) && t) e ∙ and-false (not (shows any_verdict r))
 
@@ -403,7 +403,7 @@ module _ (s : Reporter) where
       chosen (λ (u : Reporter). u.primaries ≡ s.primaries) (eqb n 22) (is_caused c (report 1 h) s) _ (λ t. caused_same c (report 1 h))
       (λ t. chosen (λ (u : Reporter). u.primaries ≡ s.primaries) (eqb n 26) (is_caused c (report 11 h) s) s (λ e. caused_same c (report 11 h)) (λ e. refl))
 
-  place_same : (c : Terms) (before after : ℕ → OwnReading) (p : ℕ) → (by_place c before after p s).primaries ≡ s.primaries
+  place_same : (c : Terms) (before after : ℕ → Option OwnReading) (p : ℕ) → (by_place c before after p s).primaries ≡ s.primaries
   place_same c before after p =
       chosen (λ (u : Reporter). u.primaries ≡ s.primaries) (gets is_six (before p) (after p)) (is_caused c (report 9 (s.primaries p)) s) s
       (λ t. caused_same c (report 9 (s.primaries p))) (λ t. refl)

@@ -1,6 +1,7 @@
 -- How many causes of a report there were, and how many reports started, as an onlooker counts them (`specs/Reporting.antt`), by one call: a
 -- cause by note 22 or 26 and by each verdict 6 at the equipment, and a start where a report is being sent that was not before (02, request 2).
 -- Assumes nothing.
+use Rattle.std.specs.Prelude.{Option}
 use Prim.Native.Nat.{ℕ, ◌+◌, ◌<◌}
 use mathlib.Core.Path.{◌≡◌, refl, sym, ap, ◌∙◌, subst}
 use mathlib.Core.Bool.{Bool, true, false, cond, not, ◌&&◌, ◌||◌, true≢false}
@@ -58,7 +59,7 @@ due_counts r s =
     chosen (λ (u : Reporter). u.causes ≡ s.causes + 1) (ltb (length s.waiting) 8) (waits_too r (counted s)) (is_lost (counted s)) (λ i. refl) (λ i. refl))
 
 -- a place that gets verdict 6 now
-abbrev pub six_at : (ℕ → OwnReading) → (ℕ → OwnReading) → ℕ → ℕ
+abbrev pub six_at : (ℕ → Option OwnReading) → (ℕ → Option OwnReading) → ℕ → ℕ
 six_at f g p = cond (gets is_six (f p) (g p)) 1 0
 
 module _ (c : Terms) where
@@ -75,7 +76,7 @@ module _ (c : Terms) where
       either (eqb n 26) (λ v. Counts c (cond v 1 0) s.causes (cond v (is_caused c (report 11 h) s) s).causes) (λ v. caused_counts (report 11 h) s)
       (λ v. none_more c.host s.causes))
 
-  place_counts : (f g : ℕ → OwnReading) (p : ℕ) (s : Reporter) → Counts c (six_at f g p) s.causes (by_place c f g p s).causes
+  place_counts : (f g : ℕ → Option OwnReading) (p : ℕ) (s : Reporter) → Counts c (six_at f g p) s.causes (by_place c f g p s).causes
   place_counts f g p s =
       either (gets is_six (f p) (g p)) (λ t. Counts c (cond t 1 0) s.causes (cond t (is_caused c (report 9 (s.primaries p)) s) s).causes)
       (λ t. caused_counts (report 9 (s.primaries p)) s) (λ t. none_more c.host s.causes)
@@ -86,7 +87,7 @@ module _ (c : Terms) where
       f ∙ ap (λ (k : ℕ). k + cond c.host 0 b) e
       ∙ either c.host (λ t. s + cond t 0 a + cond t 0 b ≡ s + cond t 0 (a + b)) (λ t. omega arith) (λ t. omega arith)
 
-  pub places_count : (f g : ℕ → OwnReading) (s : Reporter) → Counts c (six_at f g 0 + six_at f g 1 + six_at f g 2 + six_at f g 3) s.causes (by_places c f g s).causes
+  pub places_count : (f g : ℕ → Option OwnReading) (s : Reporter) → Counts c (six_at f g 0 + six_at f g 1 + six_at f g 2 + six_at f g 3) s.causes (by_places c f g s).causes
   places_count f g s =
       let one = by_place c f g 0 s in
       let two = by_place c f g 1 one in

@@ -2,7 +2,7 @@
 -- "Messages"), over every list of calls from a fresh start. An onlooker keeps them too: by what is called and answered, and by what a
 -- user reads of the own places before and after each call (`specs/Reading.antt`). And what one call does to either, whatever an onlooker
 -- keeps. Each proof is in `proofs/Numbering.antt`.
-use Rattle.std.specs.Prelude.{ℕ, ◌%◌, ◌≤◌, ◌<◌, ◌≡◌, Bool, true, false, cond, not, ◌&&◌, List, ◌≢◌, length, Ok, Err}
+use Rattle.std.specs.Prelude.{ℕ, ◌%◌, ◌≤◌, ◌<◌, ◌≡◌, Bool, true, false, cond, not, ◌&&◌, List, ◌≢◌, length, Ok, Err, None, Option, Some}
 use Rattle.header.specs.declared.header.Header.{Header}
 use Rattle.settings.specs.declared.terms.Terms.{Terms}
 use Rattle.place.specs.declared.Verdict.{Verdict}
@@ -11,7 +11,7 @@ use Rattle.place.specs.declared.Standing.TheVariants.{Free, Open, Given}
 use Rattle.place.specs.declared.Reply.{Reply}
 use Rattle.table.specs.Number.{next_number}
 use Rattle.exchange.specs.Reports.{same_message}
-use Rattle.exchange.specs.Reading.{own_reading}
+use Rattle.exchange.specs.Reading.{own_reading, reads_own}
 use Rattle.exchange.specs.Request.{open_of, Request, primary, reply, freeing_own, freeing_incoming, answer_of}
 use Rattle.exchange.specs.Rules.{Fours}
 use Rattle.exchange.specs.Refusals.{number_given}
@@ -21,23 +21,27 @@ use Rattle.exchange.specs.declared.Sending.{Sending}
 use Rattle.exchange.specs.declared.Sending.TheVariants as sending
 use Rattle.exchange.specs.declared.Exchange.{Exchange}
 use Rattle.exchange.specs.declared.OwnReading.{OwnReading}
-use Rattle.exchange.specs.declared.OwnReading.TheVariants.{NoPlace, Place}
 use Rattle.exchange.specs.declared.Primary.{Primary}
+use Rattle.place.specs.declared.Standing.{Standing}
 use Rattle.exchange.specs.Asked.{Asked}
 
 -- ---- what is read of an own place
 
 -- "System bytes: the caller's 16-bit source ID, then the number."
-abbrev pub number_shown : OwnReading → ℕ
-number_shown NoPlace = 0
-number_shown (Place h s r) = h.system % 65536
+abbrev pub number_shown : Option OwnReading → ℕ
+number_shown None = 0
+number_shown (Some r) = r.primary.system % 65536
 
--- it shows a verdict of this kind
-abbrev pub shows : (Verdict → Bool) → OwnReading → Bool
-shows kind NoPlace = false
-shows kind (Place h Free r) = false
-shows kind (Place h Open r) = false
-shows kind (Place h (Given v) r) = kind v
+-- a verdict of this kind was given
+abbrev pub given : (Verdict → Bool) → Standing → Bool
+given kind Free = false
+given kind Open = false
+given kind (Given v) = kind v
+
+-- it shows one
+abbrev pub shows : (Verdict → Bool) → Option OwnReading → Bool
+shows kind None = false
+shows kind (Some r) = given kind r.standing
 
 abbrev pub any_verdict : Verdict → Bool
 any_verdict v = true
@@ -57,7 +61,7 @@ abbrev pub by_place : Verdict → Bool
 by_place v = not (by_line v)
 
 -- it got one in this call: it shows it now, and showed no verdict before
-unfoldable pub gets : (Verdict → Bool) → OwnReading → OwnReading → Bool
+unfoldable pub gets : (Verdict → Bool) → Option OwnReading → Option OwnReading → Bool
 gets kind before after = not (shows any_verdict before) && shows kind after
 
 -- ---- what the onlooker keeps
@@ -70,7 +74,7 @@ pub record NumbersSeen : Type 0 where
 
 -- from what is read of places 0 to 3 before and after a call: of several that got such a verdict the highest is the latest; if none
 -- did, the latest is as it was, and so it stays after its release
-unfoldable pub highest : (Verdict → Bool) → (ℕ → OwnReading) → (ℕ → OwnReading) → ℕ → ℕ
+unfoldable pub highest : (Verdict → Bool) → (ℕ → Option OwnReading) → (ℕ → Option OwnReading) → ℕ → ℕ
 highest kind before after latest =
     cond (gets kind (before 3) (after 3)) (number_shown (after 3))
     (cond (gets kind (before 2) (after 2)) (number_shown (after 2))
@@ -79,18 +83,18 @@ highest kind before after latest =
     latest)))
 
 -- "On a tick the line goes first, then own places 0 to 3"
-abbrev pub latest_seen : (ℕ → OwnReading) → (ℕ → OwnReading) → ℕ → ℕ
+abbrev pub latest_seen : (ℕ → Option OwnReading) → (ℕ → Option OwnReading) → ℕ → ℕ
 latest_seen before after latest = highest by_place before after (highest by_line before after latest)
 
 -- a primary that was accepted shows its number; no other request gives one
-abbrev pub last_by : Request → OwnReading → ℕ → ℕ
+abbrev pub last_by : Request → Option OwnReading → ℕ → ℕ
 last_by (primary q d) after last = number_shown after
 last_by (reply p f d) after last = last
 last_by (freeing_own p) after last = last
 last_by (freeing_incoming p) after last = last
 
 -- one that was refused uses none up
-abbrev pub last_asked : Request → Asked → (ℕ → OwnReading) → ℕ → ℕ
+abbrev pub last_asked : Request → Asked → (ℕ → Option OwnReading) → ℕ → ℕ
 last_asked r (Ok p) after last = last_by r (after p) last
 last_asked r (Err n) after last = last
 
@@ -184,12 +188,12 @@ LastGoes =
     → LastMoves (GivesNumber c x room k) x (called c x room k).exchange
 
 -- an own place got its verdict: it shows none before the call, and one after it
-pub record Got (before after : OwnReading) : Type 0 where
+pub record Got (before after : Option OwnReading) : Type 0 where
   pub header : Header
   pub verdict : Verdict
   pub reply : Reply
-  pub none_before : (h : Header) (v : Verdict) (r : Reply) → before ≢ Place h (Given v) r
-  pub now : after ≡ Place header (Given verdict) reply
+  pub none_before : (h : Header) (v : Verdict) (r : Reply) → before ≢ reads_own h (Given v) r
+  pub now : after ≡ reads_own header (Given verdict) reply
 
 -- not by the end of its primary's sending
 pub record NotByLine (v : Verdict) : Type 0 where
@@ -219,9 +223,9 @@ LatestGoes = (c : Terms) (x : Exchange) (room : List ℕ) → Fours x → (k : C
 -- ---- E4 6.8.1
 
 -- a place in use
-abbrev pub in_use : OwnReading → Bool
-in_use NoPlace = false
-in_use (Place h s r) = true
+abbrev pub in_use : Option OwnReading → Bool
+in_use None = false
+in_use (Some r) = true
 
 -- "The system bytes of a primary message must be distinct from": where their lower half, the number, is, they are, whatever the source
 -- IDs. (What this leaves of the second distinction, and the third: docs/EXCEPTIONS.md.)

@@ -13,17 +13,15 @@ use Rattle.exchange.specs.Rules.{Fours}
 use Rattle.exchange.specs.Underway.{none, way}
 use Rattle.exchange.specs.declared.Sending.TheVariants as sending
 use Rattle.exchange.specs.declared.Exchange.{Exchange}
-use Rattle.exchange.specs.declared.OwnReading.TheVariants as reading
-use Rattle.exchange.specs.declared.IncomingReading.TheVariants as arrival
 use Rattle.exchange.specs.declared.ReplyStage.TheVariants.{NotOwed, Owed}
 
 -- ---- "`9 - 20` for a free place or one above 3"
 
 pub record NoPlaceRead (x : Exchange) (p : ℕ) : Type 0 where
-  pub own : (own_reading x p ≡ reading.NoPlace) ↔ (own_standing (own_place x p) ≡ standing.Free)
-  pub incoming : (incoming_reading x p ≡ arrival.NoPlace) ↔ (shows (incoming_place x p) ≡ nothing)
+  pub own : (own_reading x p ≡ None) ↔ (own_standing (own_place x p) ≡ standing.Free)
+  pub incoming : (incoming_reading x p ≡ None) ↔ (shows (incoming_place x p) ≡ nothing)
   -- there are four of either kind
-  pub above : Fours x → 3 < p → (own_reading x p ≡ reading.NoPlace) × (incoming_reading x p ≡ arrival.NoPlace)
+  pub above : Fours x → 3 < p → (own_reading x p ≡ None) × (incoming_reading x p ≡ None)
 
 -- No place is read exactly of one that is free, and of each above 3.
 abbrev pub NoPlaceExactly : Type 0
@@ -51,8 +49,8 @@ OwedExactly = (x : Exchange) (p : ℕ) → OwedRead x p
 pub record Fresh (told : ℕ) (x : Exchange) : Type 0 where
   -- there are four places of either kind, and none is in use
   pub fours : Fours x
-  pub own : (p : ℕ) → own_reading x p ≡ reading.NoPlace
-  pub incoming : (p : ℕ) → incoming_reading x p ≡ arrival.NoPlace
+  pub own : (p : ℕ) → own_reading x p ≡ None
+  pub incoming : (p : ℕ) → incoming_reading x p ≡ None
   -- rule 2: "the saved one (none at a start)"
   pub none_saved : x.saved ≡ None
   -- no message is being sent

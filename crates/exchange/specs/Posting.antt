@@ -2,7 +2,7 @@
 -- goes by requests and their answers, and by what a user reads of the places and of what is being sent; of the message that was accepted, or
 -- of the report that started, last it keeps the header and the data. The ten bytes that a report shows are taken from the state; which they
 -- are: `ReportsKept` (specs/Reporting.antt). Each proof is in `proofs/Posting.antt`.
-use Rattle.std.specs.Prelude.{ℕ, ◌+◌, ◌*◌, ◌≤◌, ◌≡◌, Bool, true, false, not, List, [], ◌∷◌, length, Ok, Err}
+use Rattle.std.specs.Prelude.{ℕ, ◌+◌, ◌*◌, ◌≤◌, ◌≡◌, Bool, true, false, not, List, [], ◌∷◌, length, Ok, Err, Option}
 use Rattle.cut.specs.Blocks.{block_count}
 use Rattle.header.specs.Header.{InRange}
 use Rattle.header.specs.declared.header.Header.{Header}
@@ -76,14 +76,14 @@ report_sent device f number h =
 
 -- A request was accepted for place p: the number of a primary is what its own place shows then, the header of the message to be replied to
 -- what its incoming place showed before. A release posts nothing.
-abbrev pub post_taken : Terms → (ℕ → IncomingReading) → (ℕ → OwnReading) → Request → ℕ → Post → Post
+abbrev pub post_taken : Terms → (ℕ → Option IncomingReading) → (ℕ → Option OwnReading) → Request → ℕ → Post → Post
 post_taken c before after (primary q d) p s = post (primary_asked c q (length d) (number_shown (after p))) d
 post_taken c before after (reply k f d) p s = post (reply_asked (header_by (before p)) f) d
 post_taken c before after (freeing_own k) p s = s
 post_taken c before after (freeing_incoming k) p s = s
 
 -- one that was refused does not either
-abbrev pub post_asked : Terms → (ℕ → IncomingReading) → (ℕ → OwnReading) → Request → Asked → Post → Post
+abbrev pub post_asked : Terms → (ℕ → Option IncomingReading) → (ℕ → Option OwnReading) → Request → Asked → Post → Post
 post_asked c before after r (Ok p) s = post_taken c before after r p s
 post_asked c before after r (Err n) s = s
 

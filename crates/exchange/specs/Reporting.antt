@@ -155,11 +155,11 @@ is_six NoReply = true
 is_six SendFailed = false
 
 -- own place p shows verdict 6 now, and showed no verdict before: S9F9 with the header of the primary's last block as it was sent (reading 31)
-abbrev pub by_place : Terms → (ℕ → OwnReading) → (ℕ → OwnReading) → ℕ → Reporter → Reporter
+abbrev pub by_place : Terms → (ℕ → Option OwnReading) → (ℕ → Option OwnReading) → ℕ → Reporter → Reporter
 by_place c before after p s = cond (gets is_six (before p) (after p)) (is_caused c (report 9 (s.primaries p)) s) s
 
 -- then places 0 to 3 add theirs (reading 34)
-abbrev pub by_places : Terms → (ℕ → OwnReading) → (ℕ → OwnReading) → Reporter → Reporter
+abbrev pub by_places : Terms → (ℕ → Option OwnReading) → (ℕ → Option OwnReading) → Reporter → Reporter
 by_places c before after s = by_place c before after 3 (by_place c before after 2 (by_place c before after 1 (by_place c before after 0 s)))
 
 -- the block is of the reply to the primary being sent: "the held block is withdrawn and counts as sent" (02, request 1), if it is kept or
@@ -184,14 +184,14 @@ sends turn primaries s = record {
   primaries = primaries;
 }
 
-abbrev pub reporter_taken : Terms → (ℕ → OwnReading) → Request → ℕ → Reporter → Reporter
+abbrev pub reporter_taken : Terms → (ℕ → Option OwnReading) → Request → ℕ → Reporter → Reporter
 reporter_taken c after (primary q d) p s =
     sends caller (anew s.primaries p (header_bytes (primary_asked c q (length d) (number_shown (after p))))) s
 reporter_taken c after (reply k f d) p s = sends caller s.primaries s
 reporter_taken c after (freeing_own k) p s = s
 reporter_taken c after (freeing_incoming k) p s = s
 
-abbrev pub reporter_asked : Terms → (ℕ → OwnReading) → Request → Asked → Reporter → Reporter
+abbrev pub reporter_asked : Terms → (ℕ → Option OwnReading) → Request → Asked → Reporter → Reporter
 reporter_asked c after r (Ok p) s = reporter_taken c after r p s
 reporter_asked c after r (Err n) s = s
 

@@ -151,29 +151,22 @@ pub enum Refusal {
     Replied,
 }
 
-// An own place: the primary, how it stands, and what is kept of its reply.
+// What is read of an own place in use: the primary, how it stands, and what is kept of its reply.
 #[derive(Clone, Copy)]
-pub enum OwnReading {
-    // "place above 3 or free"
-    NoPlace,
-    Place {
-        primary: Header,
-        standing: Standing,
-        reply: Reply,
-    },
+pub struct OwnReading {
+    pub primary: Header,
+    pub standing: Standing,
+    pub reply: Reply,
 }
 
-// An incoming place: the header of its first block, how many data bytes are kept, whether the message is complete, and our reply.
+// What is read of an incoming place in use: the header of its first block, how many data bytes are kept, whether the message is
+// complete, and our reply.
 #[derive(Clone, Copy)]
-pub enum IncomingReading {
-    // "place above 3 or free"
-    NoPlace,
-    Place {
-        primary: Header,
-        length: u16,
-        complete: bool,
-        reply: ReplyStage,
-    },
+pub struct IncomingReading {
+    pub primary: Header,
+    pub length: u16,
+    pub complete: bool,
+    pub reply: ReplyStage,
 }
 
 // Our reply to an incoming message.

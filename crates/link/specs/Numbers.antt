@@ -2,7 +2,7 @@
 -- keeps "the last given" and "that of the latest own transaction to get a verdict" (01, "Messages"). The onlooker is that of
 -- exchange/specs/Numbers.antt, at the unit's door: it goes by what is called and answered, and by what a user reads of the own places
 -- before and after each call. Each proof is in `proofs/numbers/`.
-use Rattle.std.specs.Prelude.{ℕ, ◌≤◌, ◌<◌, ◌≡◌, true, List, [], ◌∷◌, ◌≢◌, ◌⊎◌}
+use Rattle.std.specs.Prelude.{ℕ, ◌≤◌, ◌<◌, ◌≡◌, true, List, [], ◌∷◌, ◌≢◌, ◌⊎◌, Option}
 use Rattle.table.specs.Number.{next_number}
 use Rattle.exchange.specs.Request.{Request}
 use Rattle.exchange.specs.Refusals.{number_given}
@@ -17,12 +17,12 @@ use Rattle.link.specs.declared.Outcome.{Outcome}
 use Rattle.link.specs.declared.Outcome.TheVariants.{Done, Taken, Refused}
 
 -- what was accepted shows the number that it was given (`last_by`, exchange/specs/Numbers.antt)
-abbrev pub last_of : Outcome → Request → (ℕ → OwnReading) → ℕ → ℕ
+abbrev pub last_of : Outcome → Request → (ℕ → Option OwnReading) → ℕ → ℕ
 last_of Done r after last = last
 last_of (Taken p) r after last = last_by r (after p) last
 last_of (Refused n) r after last = last
 
-abbrev pub last_seen : Call → Outcome → (ℕ → OwnReading) → ℕ → ℕ
+abbrev pub last_seen : Call → Outcome → (ℕ → Option OwnReading) → ℕ → ℕ
 last_seen (byte b fits) o after last = last
 last_seen tick o after last = last
 last_seen drained o after last = last

@@ -25,8 +25,6 @@ use Rattle.exchange.specs.Request.{Request, primary, reply, freeing_own, freeing
 use Rattle.exchange.specs.Releases.{is_release}
 use Rattle.exchange.specs.Rules.{Fours, LowestAt, OfReply, OfMessage, ReplyHere, MessageHere, AlikeAt, AlikeHere, FreeAt, bytes_before}
 use Rattle.exchange.specs.Refusals.{OwnFree, RequestRuled, FillsBy}
-use Rattle.exchange.specs.declared.OwnReading.TheVariants as reading
-use Rattle.exchange.specs.declared.IncomingReading.TheVariants as arrival
 use Rattle.exchange.specs.declared.Sending.{Sending}
 use Rattle.exchange.specs.declared.Sending.TheVariants as sending
 use Rattle.exchange.specs.declared.Exchange.{Exchange}
@@ -262,8 +260,8 @@ pub record Started (s : Setup) (a : Answer) : Type 0 where
   pub block : a.link.block ≡ 1
   -- in plain words: no place is in use; of the saved header, "none at a start"; no message is being sent; the "last transaction number" is the
   -- one of the settings, and none of an own transaction with a verdict is passed over; the line is idle, and no block is held
-  pub no_own : (p : ℕ) → own_of a.link p ≡ reading.NoPlace
-  pub no_incoming : (p : ℕ) → incoming_of a.link p ≡ arrival.NoPlace
+  pub no_own : (p : ℕ) → own_of a.link p ≡ None
+  pub no_incoming : (p : ℕ) → incoming_of a.link p ≡ None
   pub none_saved : a.link.exchange.saved ≡ None
   pub none_sent : a.link.exchange.sending ≡ sending.Nothing
   pub last : a.link.exchange.numbers.last ≡ s.last

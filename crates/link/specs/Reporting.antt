@@ -1,7 +1,7 @@
 -- What the equipment tells the host it threw out or waited for in vain (02, request 2; E4 R1-7.6), over any calls from a start, refused ones
 -- among them. The onlooker is that of exchange/specs/Reporting.antt: it goes by what a call tells the transactions and by what it answers
 -- (`Tells`, specs/Verdicts.antt; `ToldExactly`, specs/Device.antt). Each proof is in `proofs/reporting/`.
-use Rattle.std.specs.Prelude.{ℕ, ◌+◌, ◌/◌, ◌%◌, ◌≤◌, ◌<◌, ◌≡◌, Bool, true, false, cond, ◌||◌, List, [], ◌∷◌, ◌++◌, ◌≢◌, ◌↔◌, eqb, length, take, drop}
+use Rattle.std.specs.Prelude.{ℕ, ◌+◌, ◌/◌, ◌%◌, ◌≤◌, ◌<◌, ◌≡◌, Bool, true, false, cond, ◌||◌, List, [], ◌∷◌, ◌++◌, ◌≢◌, ◌↔◌, eqb, length, take, drop, Option}
 use Rattle.wire.specs.Bytes.{halves_of}
 use Rattle.wire.specs.Sum.{checksum_of}
 use Rattle.header.specs.Header.{header_bytes}
@@ -67,10 +67,10 @@ abbrev pub note_causes : ℕ → ℕ
 note_causes n = cond (eqb n 22 || eqb n 26) 1 0
 
 -- an own place that shows verdict 6 now, and showed none before
-abbrev pub place_causes : OwnReading → OwnReading → ℕ
+abbrev pub place_causes : Option OwnReading → Option OwnReading → ℕ
 place_causes before after = cond (gets is_six before after) 1 0
 
-abbrev pub places_cause : (ℕ → OwnReading) → (ℕ → OwnReading) → ℕ
+abbrev pub places_cause : (ℕ → Option OwnReading) → (ℕ → Option OwnReading) → ℕ
 places_cause before after =
     place_causes (before 0) (after 0) + place_causes (before 1) (after 1) + place_causes (before 2) (after 2) + place_causes (before 3) (after 3)
 

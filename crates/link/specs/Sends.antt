@@ -3,7 +3,7 @@
 -- by these it tells what leaves whenever EOT answers an ENQ of ours, and when the message has been sent. Over any calls from a start,
 -- refused ones among them. The ten bytes that a report shows are taken from the state: which they are is `ReportsKept`, and as they leave
 -- `ReportBytes` (specs/Reporting.antt). Each proof is in `proofs/`.
-use Rattle.std.specs.Prelude.{ℕ, ◌+◌, ◌-◌, ◌*◌, ◌≤◌, ◌<◌, ◌≡◌, Bool, true, false, cond, List, [], ◌∷◌, ◌↔◌, ◌≢◌, eqb, length, take, drop}
+use Rattle.std.specs.Prelude.{ℕ, ◌+◌, ◌-◌, ◌*◌, ◌≤◌, ◌<◌, ◌≡◌, Bool, true, false, cond, List, [], ◌∷◌, ◌↔◌, ◌≢◌, eqb, length, take, drop, Option}
 use Rattle.header.specs.Header.{InRange, numbered_of}
 use Rattle.settings.specs.declared.terms.Terms.{Terms}
 use Rattle.cut.specs.Blocks.{block_count}
@@ -45,12 +45,12 @@ nothing_sent = record { message = nothing_posted; block = 1 }
 
 -- a request that was accepted: a primary as it was asked for, with the number that its place shows; a reply to the message that its place
 -- showed (`post_taken`, exchange/specs/Posting.antt). A refused one changes nothing.
-abbrev pub post_by : Terms → (ℕ → IncomingReading) → (ℕ → OwnReading) → Request → Outcome → Post → Post
+abbrev pub post_by : Terms → (ℕ → Option IncomingReading) → (ℕ → Option OwnReading) → Request → Outcome → Post → Post
 post_by c before after r outcome.Done s = s
 post_by c before after r (outcome.Taken p) s = post_taken c before after r p s
 post_by c before after r (outcome.Refused n) s = s
 
-abbrev pub message_after : Terms → (ℕ → IncomingReading) → (ℕ → OwnReading) → Call → Outcome → Post → Post
+abbrev pub message_after : Terms → (ℕ → Option IncomingReading) → (ℕ → Option OwnReading) → Call → Outcome → Post → Post
 message_after c before after (byte b fits) o s = s
 message_after c before after tick o s = s
 message_after c before after drained o s = s

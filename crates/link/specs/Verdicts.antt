@@ -2,7 +2,7 @@
 -- (`specs/History.antt`): the third demand. `t.own p` and `t.incoming p` are what the onlookers of place p have seen; how one call
 -- more moves them is in `specs/Moves.antt`. All of it is said by what a call tells the transactions and by what a user reads, nothing by
 -- the line: of a second device the same text would hold. Each proof is in `proofs/`.
-use Rattle.std.specs.Prelude.{ℕ, ◌+◌, ◌≤◌, ◌<◌, ◌≡◌, Bool, true, false, List, [], ◌∷◌, ◌↔◌, ◌⊎◌, length}
+use Rattle.std.specs.Prelude.{ℕ, ◌+◌, ◌≤◌, ◌<◌, ◌≡◌, Bool, true, false, List, [], ◌∷◌, ◌↔◌, ◌⊎◌, length, None, Option, Some}
 use Rattle.header.specs.declared.header.Header.{Header}
 use Rattle.place.specs.Message.{Routed, Continues, Whole, no_header, first_of}
 use Rattle.place.specs.Own.{no_reply, own_standing}
@@ -17,13 +17,11 @@ use Rattle.place.specs.declared.Standing.TheVariants.{Free, Open, Given}
 use Rattle.room.specs.Room.{bytes_in}
 use Rattle.room.specs.declared.Message.TheVariants as message
 use Rattle.exchange.specs.Exchange.{own_place, incoming_place}
-use Rattle.exchange.specs.Reading.{header_by, stage_by, has_ended}
+use Rattle.exchange.specs.Reading.{header_by, stage_by, has_ended, reads_incoming, reads_own}
 use Rattle.exchange.specs.Rules.{OfReply, OfMessage, FreeAt}
 use Rattle.exchange.specs.Theorems.{Reached as ExchangeReached}
 use Rattle.exchange.specs.declared.OwnReading.{OwnReading}
-use Rattle.exchange.specs.declared.OwnReading.TheVariants as reading
 use Rattle.exchange.specs.declared.IncomingReading.{IncomingReading}
-use Rattle.exchange.specs.declared.IncomingReading.TheVariants as arrival
 use Rattle.exchange.specs.declared.ReplyStage.{ReplyStage}
 use Rattle.exchange.specs.declared.ReplyStage.TheVariants.{NotOwed, Owed, OnItsWay}
 use Rattle.link.specs.Answer.{accepted}
@@ -39,9 +37,9 @@ use Rattle.link.specs.declared.Link.{Link}
 -- ---- what a user reads of an own place
 
 -- free; "0 open"; or its verdict
-abbrev pub standing_by : OwnReading → Standing
-standing_by reading.NoPlace = Free
-standing_by (reading.Place h s r) = s
+abbrev pub standing_by : Option OwnReading → Standing
+standing_by None = Free
+standing_by (Some r) = r.standing
 
 abbrev pub standing : Track → ℕ → Standing
 standing t p = standing_by (own_of t.link p)
@@ -90,11 +88,11 @@ ReplyTakesExactly =
 
 -- `V` prints "`9 - 20` for a free place or one above 3": no place is read exactly where no request is,
 abbrev pub NoPlaceExactly : Type 0
-NoPlaceExactly = AtEach (λ t p. (own_of t.link p ≡ reading.NoPlace) ↔ ((t.own p).request ≡ own.none))
+NoPlaceExactly = AtEach (λ t p. (own_of t.link p ≡ None) ↔ ((t.own p).request ≡ own.none))
 
 -- and above 3, where no message is either.
 abbrev pub NoneAbove : Type 0
-NoneAbove = Always (λ t. (p : ℕ) → 3 < p → (own_of t.link p ≡ reading.NoPlace) × (incoming_of t.link p ≡ arrival.NoPlace))
+NoneAbove = Always (λ t. (p : ℕ) → 3 < p → (own_of t.link p ≡ None) × (incoming_of t.link p ≡ None))
 
 -- While the room comes back, the transactions inside, with it, are as their own calls leave them: so what is proved of their areas
 -- (`JoinedInAreas`, exchange/specs/Theorems.antt) holds of the lent room.
@@ -102,13 +100,13 @@ abbrev pub ExchangeBack : Type 0
 ExchangeBack = (t : Track) → ReachedBack t → ExchangeReached (terms_in t) (exchange_track t t.room)
 
 -- the request, and what is kept of its reply
-abbrev pub request_in : OwnReading → Header
-request_in reading.NoPlace = no_header
-request_in (reading.Place h s r) = h
+abbrev pub request_in : Option OwnReading → Header
+request_in None = no_header
+request_in (Some r) = r.primary
 
-abbrev pub reply_in : OwnReading → Reply
-reply_in reading.NoPlace = no_reply
-reply_in (reading.Place h s r) = r
+abbrev pub reply_in : Option OwnReading → Reply
+reply_in None = no_reply
+reply_in (Some r) = r.reply
 
 -- The header read of a place in use is that of the request which was accepted for it.
 abbrev pub RequestRead : Type 0
@@ -199,13 +197,13 @@ VerdictFalls = AtEach InTime
 
 -- ---- what a user reads of an incoming place
 
-abbrev pub there_by : IncomingReading → Bool
-there_by arrival.NoPlace = false
-there_by (arrival.Place h n c r) = true
+abbrev pub there_by : Option IncomingReading → Bool
+there_by None = false
+there_by (Some r) = true
 
-abbrev pub complete_by : IncomingReading → Bool
-complete_by arrival.NoPlace = false
-complete_by (arrival.Place h n c r) = c
+abbrev pub complete_by : Option IncomingReading → Bool
+complete_by None = false
+complete_by (Some r) = r.complete
 
 -- there is a message, and it is complete
 abbrev pub is_there : Track → ℕ → Bool
@@ -229,7 +227,7 @@ pub record MessageExactly (t : Track) (p : ℕ) : Type 0 where
       ↔ (((t.incoming p).begun ≡ true) × (Whole (t.incoming p).kept → ⊥) × (Breaks (terms_in t) (t.incoming p) → ⊥))
   -- free
   pub none : (is_there t p ≡ false) ↔ NoMessage t p
-  pub no_place : (incoming_of t.link p ≡ arrival.NoPlace) ↔ NoMessage t p
+  pub no_place : (incoming_of t.link p ≡ None) ↔ NoMessage t p
 
 abbrev pub CompleteExactly : Type 0
 CompleteExactly = AtEach MessageExactly
@@ -251,9 +249,9 @@ abbrev pub FreeAsRead : Type 0
 FreeAsRead = AtEach FreeRead
 
 -- the length that is read
-abbrev pub length_by : IncomingReading → ℕ
-length_by arrival.NoPlace = 0
-length_by (arrival.Place h n c r) = n
+abbrev pub length_by : Option IncomingReading → ℕ
+length_by None = 0
+length_by (Some r) = r.length
 
 -- they are those of the blocks kept
 pub record Shown (t : Track) (p : ℕ) : Type 0 where

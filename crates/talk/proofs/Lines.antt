@@ -1,4 +1,5 @@
 -- What each line does (`specs/Lines.antt`): the calls that a line makes, one after the other, and lines that make none. Assumes nothing.
+use Rattle.std.specs.Prelude.{Option}
 use Prim.Native.Nat.{ℕ, zero, suc, ◌+◌}
 use mathlib.Core.Path.{◌≡◌, refl, sym, ap, subst, ◌∙◌}
 use mathlib.Core.Bool.{Bool, true, false, false≢true}
@@ -213,7 +214,7 @@ verdict_text (standing.Given verdict.SendFailed) p e = record { verdict = 7; is 
 reading_text : (u : Link) (p : ℕ) → ReadingText (own_of u p) p (text_of (verdict_by (own_of u p) p) [])
 unfolding own_reading digits_of number_text
 reading_text u p =
-    chosen (λ (r : OwnReading). ReadingText r p (text_of (verdict_by r p) [])) (own_is_free (own_place u.exchange p)) _ _ (λ e. refl)
+    chosen (λ (r : Option OwnReading). ReadingText r p (text_of (verdict_by r p) [])) (own_is_free (own_place u.exchange p)) _ _ (λ e. refl)
     (λ e. verdict_text (own_standing (own_place u.exchange p)) p e)
 
 -- ---- a start

@@ -1,4 +1,5 @@
 -- The unit of bench is one that was started, and of which the calls of lines were made since (`specs/Reached.antt`). Assumes nothing.
+use Rattle.std.specs.Prelude.{None, Option}
 use Prim.Native.Nat.{ℕ, ◌≤◌}
 use mathlib.Core.Path.{◌≡◌, refl, sym, ap, subst, ◌∙◌}
 use mathlib.Core.Bool.{Bool, true, false, false≢true}
@@ -12,7 +13,6 @@ use Rattle.wire.specs.Lent.{on_front}
 use Rattle.wire.proofs.Choice.{either}
 use Rattle.link.proofs.inside.Reached.{reached_more}
 use Rattle.exchange.specs.declared.OwnReading.{OwnReading}
-use Rattle.exchange.specs.declared.OwnReading.TheVariants as own
 use Rattle.link.specs.Reading.{own_of}
 use Rattle.link.specs.State.{fresh_link}
 use Rattle.link.specs.History.{Call, called, Made, kept, Track, next, track, at_start}
@@ -197,7 +197,7 @@ pub above_three : AboveThree
 above_three lines e line p is short past =
     let d = (talked silence lines).now in
     let w = units_reached lines e in
-    let none : own_of d.shown.bench.link p ≡ own.NoPlace =
+    let none : own_of d.shown.bench.link p ≡ None =
     ap (λ (u : Link). own_of u p) (sym w.link) ∙ (none_above w.track w.reached.reached p past).0 in
     let done = (lines_do d.shown.bench line d.room d.out).started e short (shows p) is in
-    subst (λ (r : OwnReading). ReadingText r p (text_done (line_done d.shown.bench line d.room d.out))) none done.text
+    subst (λ (r : Option OwnReading). ReadingText r p (text_done (line_done d.shown.bench line d.room d.out))) none done.text

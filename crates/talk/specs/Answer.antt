@@ -1,8 +1,7 @@
 -- What a line does, and what is printed for it (01, "Bench program and proved table").
-use Rattle.std.specs.Prelude.{ℕ, Bool, true, false, cond, List, eqb, take, replicate}
+use Rattle.std.specs.Prelude.{ℕ, Bool, true, false, cond, List, eqb, take, replicate, None, Option}
 use Rattle.place.specs.Verdict.{standing_number}
 use Rattle.exchange.specs.declared.OwnReading.{OwnReading}
-use Rattle.exchange.specs.declared.OwnReading.TheVariants as own
 use Rattle.link.specs.Answer.{outcome_number}
 use Rattle.link.specs.State.{start_of}
 use Rattle.link.specs.Run.{left}
@@ -20,6 +19,7 @@ use Rattle.talk.specs.Run.{Running, running, nothing_ran, joins, bytes_run, tick
 use Rattle.talk.specs.declared.Ran.{Ran}
 use Rattle.talk.specs.declared.Bench.{Bench}
 use Rattle.talk.specs.declared.Shown.{Shown}
+use Rattle.exchange.specs.Reading.{reads_own}
 
 -- what a line came to, and every byte of the room and of the memory that output is put in
 pub record Done : Type 0 where
@@ -55,9 +55,9 @@ abbrev pub unread_shown : Bench → Shown
 unread_shown b = shown_as b printed.Unreadable 0
 
 -- "`V` place prints V, place, verdict, or `9 - 20` for a free place or one above 3."
-abbrev pub verdict_by : OwnReading → ℕ → Printed
-verdict_by own.NoPlace p = printed.Answer 9 20
-verdict_by (own.Place primary standing reply) p = printed.Verdict p (standing_number standing)
+abbrev pub verdict_by : Option OwnReading → ℕ → Printed
+verdict_by None p = printed.Answer 9 20
+verdict_by (reads_own primary standing reply) p = printed.Verdict p (standing_number standing)
 
 -- a start that is not refused begins anew, a refused one leaves the unit that there was
 unfoldable pub start_shown : Bench → Setup → Shown

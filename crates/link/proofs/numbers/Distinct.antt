@@ -1,6 +1,6 @@
 -- Own places in use have different numbers, and so different system bytes: "distinct from .. those of all currently open transactions
 -- initiated from the same end" (E4 6.8.1). So a reply is for one of them alone. Assumes nothing.
-use Rattle.std.specs.Prelude.{Ok}
+use Rattle.std.specs.Prelude.{Ok, None, Option, Some}
 use Prim.Native.Nat.{ℕ, ◌%◌, ◌≤◌, ◌<◌}
 use mathlib.Core.Path.{◌≡◌, refl, sym, ap, subst, ◌∙◌}
 use mathlib.Core.Bool.{true, false, false≢true}
@@ -16,13 +16,12 @@ use Rattle.place.proofs.Verdicts.{request_shown, free_exactly as free_exactly'}
 use Rattle.exchange.specs.Exchange.{own_place, sent_from}
 use Rattle.exchange.specs.Assembly.{expects_at}
 use Rattle.exchange.specs.Request.{primary}
-use Rattle.exchange.specs.Reading.{own_reading}
+use Rattle.exchange.specs.Reading.{own_reading, reads_own}
 use Rattle.exchange.specs.Numbers.{number_shown, NumbersAre, in_use, NumberNew}
 use Rattle.exchange.proofs.Numbering.{numbers_fresh, numbers_of, own_numbers, number_distinct}
 use Rattle.exchange.proofs.Runs.{four_places}
 use Rattle.exchange.specs.declared.Exchange.{Exchange}
 use Rattle.exchange.specs.declared.OwnReading.{OwnReading}
-use Rattle.exchange.specs.declared.OwnReading.TheVariants as reading
 use Rattle.exchange.specs.declared.Primary.{Primary}
 use Rattle.link.specs.Reading.{own_of}
 use Rattle.link.specs.History.{Made, Track, terms_in, next}
@@ -47,13 +46,13 @@ Used t p = (t.own p).request ≢ own.none
 abbrev number : own.Seen → ℕ
 number s = s.header.system % 65536
 
-number_in : (r : OwnReading) → number_shown r ≡ (request_in r).system % 65536
-number_in reading.NoPlace = refl
-number_in (reading.Place h s r) = refl
+number_in : (r : Option OwnReading) → number_shown r ≡ (request_in r).system % 65536
+number_in None = refl
+number_in (Some r) = refl
 
-in_use_lem : (r : OwnReading) → r ≢ reading.NoPlace → in_use r ≡ true
-in_use_lem reading.NoPlace n = absurd (n refl)
-in_use_lem (reading.Place h s r) n = refl
+in_use_lem : (r : Option OwnReading) → r ≢ None → in_use r ≡ true
+in_use_lem None n = absurd (n refl)
+in_use_lem (Some r) n = refl
 
 -- the request is not none
 abbrev IsSome : own.Request → Type 0

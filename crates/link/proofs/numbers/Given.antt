@@ -1,5 +1,6 @@
 -- What one call of the unit does to the last transaction number given, and to that of the latest own transaction to get a verdict; the number
 -- of a report that starts is new (`specs/Numbers.antt`). Assumes nothing.
+use Rattle.std.specs.Prelude.{Option}
 use Prim.Native.Nat.{ℕ, ◌≤◌}
 use mathlib.Core.Path.{◌≡◌, refl, sym, ap, ◌∙◌, subst}
 use mathlib.Core.List.{List, [], ◌∷◌}
@@ -93,7 +94,7 @@ module _ (t : Track) (w : Reached t) (fits : w.setup.last ≤ 65535) (m : Made) 
 
   -- a primary that is accepted is one that opens
   not_opened : (((p : ℕ) × (q : Primary) × Opens t m p q) → ⊥) → (k : Call) → m.call ≡ k → (o : Outcome) → (answered t m).answer.outcome ≡ o
-      → (own : ℕ → OwnReading) (last : ℕ) → last_seen k o own last ≡ last
+      → (own : ℕ → Option OwnReading) (last : ℕ) → last_seen k o own last ≡ last
   not_opened none (byte b less) e o f own last = refl
   not_opened none tick e o f own last = refl
   not_opened none drained e o f own last = refl

@@ -1,5 +1,5 @@
 -- The transaction numbers that the unit keeps are those that an onlooker keeps (`specs/Numbers.antt`). Assumes nothing.
-use Rattle.std.specs.Prelude.{Ok}
+use Rattle.std.specs.Prelude.{Ok, Option}
 use Prim.Native.Nat.{ℕ}
 use mathlib.Core.Path.{◌≡◌, refl, sym, ap, ◌∙◌, subst}
 use mathlib.Core.Bool.{true, false≢true}
@@ -49,7 +49,7 @@ module _ (t : Track) (sound : Sound t.link.exchange) (s : NumbersSeen) (w : Numb
   after ks = (exchange.track c (exchange_track t room) ks).exchange
 
   -- the numbers are as they are seen, where this one is the last of a primary
-  abbrev Keeps : ((ℕ → OwnReading) → ℕ) → Exchange → Type 0
+  abbrev Keeps : ((ℕ → Option OwnReading) → ℕ) → Exchange → Type 0
   Keeps last z = NumbersAre z (record {
     last = last_reported x.sending z.sending (last (own_reading z));
     latest = latest_seen (own_reading x) (own_reading z) s.latest;

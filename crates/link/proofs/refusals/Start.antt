@@ -19,8 +19,6 @@ use Rattle.place.specs.Own.{fresh_own}
 use Rattle.place.specs.Incoming.{fresh_incoming}
 use Rattle.exchange.specs.Reading.{own_reading, incoming_reading}
 use Rattle.exchange.specs.declared.Exchange.{Exchange}
-use Rattle.exchange.specs.declared.OwnReading.TheVariants as reading
-use Rattle.exchange.specs.declared.IncomingReading.TheVariants as arrival
 use Rattle.exchange.proofs.Tests.{fails}
 use Rattle.link.specs.Answer.{outcome_number}
 use Rattle.link.specs.Setup.{panel_of, messages_of, agreed_by, taken_by, ranged_of, no_settings, settings_in_range}
@@ -131,11 +129,11 @@ alike zero p a = refl
 alike (suc n) zero a = refl
 alike (suc n) (suc p) a = alike n p a
 
-no_own_place : (x : Exchange) (p : ℕ) → x.own ≡ replicate 4 fresh_own → own_reading x p ≡ reading.NoPlace
+no_own_place : (x : Exchange) (p : ℕ) → x.own ≡ replicate 4 fresh_own → own_reading x p ≡ None
 unfolding own_reading
 no_own_place x p e = rw (e, alike 4 p fresh_own) refl
 
-no_incoming_place : (x : Exchange) (p : ℕ) → x.incoming ≡ replicate 4 fresh_incoming → incoming_reading x p ≡ arrival.NoPlace
+no_incoming_place : (x : Exchange) (p : ℕ) → x.incoming ≡ replicate 4 fresh_incoming → incoming_reading x p ≡ None
 unfolding incoming_reading
 no_incoming_place x p e = rw (e, alike 4 p fresh_incoming) refl
 

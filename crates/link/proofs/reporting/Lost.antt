@@ -1,6 +1,6 @@
 -- None is lost: each cause has started a report, or its report waits, or was dropped and counted (`specs/Reporting.antt`: NoneLost). What is
 -- counted at the door, by notes, verdicts and what is being sent, is what the onlooker of the reports counts. Assumes nothing.
-use Rattle.std.specs.Prelude.{Ok, Err}
+use Rattle.std.specs.Prelude.{Ok, Err, Option}
 use Prim.Native.Nat.{ℕ, ◌+◌, ◌≤◌, ◌<◌}
 use mathlib.Core.Path.{◌≡◌, refl, sym, ap, subst, ◌∙◌}
 use mathlib.Core.Bool.{Bool, true, false, cond, ◌||◌, true≢false}
@@ -90,7 +90,7 @@ asked_starts (freeing_incoming k) (Ok p) z = same_started z z refl
 asked_starts r (Err n) z = same_started z z refl
 
 -- and the onlooker counts none
-asked_same : (c : Terms) (after : ℕ → OwnReading) (r : Request) (a : Asked) (s : Reporter)
+asked_same : (c : Terms) (after : ℕ → Option OwnReading) (r : Request) (a : Asked) (s : Reporter)
     → ((reporter_asked c after r a s).starts ≡ s.starts) × ((reporter_asked c after r a s).causes ≡ s.causes)
 asked_same c after (primary q d) (Ok p) s = (refl, refl)
 asked_same c after (reply k f d) (Ok p) s = (refl, refl)
@@ -101,12 +101,12 @@ asked_same c after r (Err n) s = (refl, refl)
 -- ---- one call
 
 -- verdict 6 at no place
-no_places : (f g : ℕ → OwnReading) → ((p : ℕ) → p < 4 → gets is_six (f p) (g p) ≡ false) → places_cause f g ≡ 0
+no_places : (f g : ℕ → Option OwnReading) → ((p : ℕ) → p < 4 → gets is_six (f p) (g p) ≡ false) → places_cause f g ≡ 0
 no_places f g six =
     λ i.
     cond (six 0 (omega arith) i) 1 0 + cond (six 1 (omega arith) i) 1 0 + cond (six 2 (omega arith) i) 1 0 + cond (six 3 (omega arith) i) 1 0
 
-alike_places : (f g h : ℕ → OwnReading) → ((p : ℕ) → p < 4 → gets is_six (f p) (h p) ≡ gets is_six (g p) (h p)) → places_cause f h ≡ places_cause g h
+alike_places : (f g h : ℕ → Option OwnReading) → ((p : ℕ) → p < 4 → gets is_six (f p) (h p) ≡ gets is_six (g p) (h p)) → places_cause f h ≡ places_cause g h
 alike_places f g h same =
     λ i.
     cond (same 0 (omega arith) i) 1 0 + cond (same 1 (omega arith) i) 1 0 + cond (same 2 (omega arith) i) 1 0 + cond (same 3 (omega arith) i) 1 0

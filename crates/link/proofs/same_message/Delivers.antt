@@ -1,5 +1,5 @@
 -- A primary that is accepted at one end is the same message at the other (`specs/SameMessage.antt`). Assumes nothing.
-use Rattle.std.specs.Prelude.{Ok}
+use Rattle.std.specs.Prelude.{Ok, None, Option}
 use Prim.Native.Nat.{ℕ, suc, ◌%◌, ◌≤◌, ◌<◌}
 use mathlib.Core.Path.{◌≡◌, refl, sym, ap, subst, ◌∙◌}
 use mathlib.Core.Bool.{Bool, true, false, cond, not, false≢true}
@@ -40,7 +40,7 @@ use Rattle.table.proofs.Giving.{number_given_lem}
 use Rattle.exchange.specs.Exchange.{own_place, incoming_place, put_own, with_sending}
 use Rattle.exchange.specs.Send.{outgoing_at, outgoing_of, ended_own, sent_by, sent_of}
 use Rattle.exchange.specs.Request.{asked_number, sending_by, primary, answer_of}
-use Rattle.exchange.specs.Reading.{wanted, own_reading, reply_stage, incoming_reading}
+use Rattle.exchange.specs.Reading.{wanted, own_reading, reply_stage, incoming_reading, reads_incoming, reads_own}
 use Rattle.exchange.specs.Rules.{Fours}
 use Rattle.exchange.specs.Releases as side
 use Rattle.exchange.specs.Refusals.{OpenRuled, open_0, open_5, open_6, open_7, open_8, number_given, Opened}
@@ -58,9 +58,7 @@ use Rattle.exchange.specs.declared.Sending.{Sending as Sending'}
 use Rattle.exchange.specs.declared.Sending.TheVariants as sending
 use Rattle.exchange.specs.declared.Outbox.{Outbox}
 use Rattle.exchange.specs.declared.Exchange.{Exchange}
-use Rattle.exchange.specs.declared.OwnReading.TheVariants as own
 use Rattle.exchange.specs.declared.IncomingReading.{IncomingReading}
-use Rattle.exchange.specs.declared.IncomingReading.TheVariants as incoming
 use Rattle.exchange.specs.declared.ReplyStage.{ReplyStage}
 use Rattle.exchange.specs.declared.ReplyStage.TheVariants as reply
 use Rattle.exchange.specs.declared.Primary.{Primary}
@@ -128,9 +126,9 @@ module _ (c : Terms) (y : Exchange) (p n : ℕ) (h : Header) (i : InRange h) (is
       ap (λ (z : Sending'). outgoing_at z (passes c y m)) (stays_sent m)
       ∙ ap (λ (o : Own). Message (primary_of o) n) (stays_placed m) ∙ ap (λ (g : Header). Message g n) (header_and_back h i)
 
-  shown_open : own_reading y p ≡ own.Place h Open no_reply
+  shown_open : own_reading y p ≡ reads_own h Open no_reply
   unfolding own_reading
-  shown_open = ap read here ∙ ap (λ (g : Header). own.Place g Open no_reply) (header_and_back h i)
+  shown_open = ap read here ∙ ap (λ (g : Header). reads_own g Open no_reply) (header_and_back h i)
 
   -- what becomes of its place once it is sent
   module _ (m : ℕ) (four : length (passes c y m).own ≡ 4) (within : p < 4) where
@@ -150,16 +148,16 @@ module _ (c : Terms) (y : Exchange) (p n : ℕ) (h : Header) (i : InRange h) (is
     awaits_reply wants =
         sent_place ∙ ap (λ (v : Bool). cond v (record { header = header_bytes h; stage = Awaiting 0 }) (record { header = header_bytes h; stage = Done Sent no_reply })) (asked_so ∙ wants)
 
-    sent_shown : own_reading (sent_of (passes c y m)).exchange p ≡ own.Place h (cond h.w Open (Given Sent)) no_reply
+    sent_shown : own_reading (sent_of (passes c y m)).exchange p ≡ reads_own h (cond h.w Open (Given Sent)) no_reply
     unfolding own_reading acknowledged ended
     sent_shown = ap read sent_place ∙ ap (λ (v : Bool). read (becomes v)) asked_so ∙ by h.w
       where
         becomes : Bool → Own
         becomes v = cond v (record { header = header_bytes h; stage = Awaiting 0 }) (record { header = header_bytes h; stage = Done Sent no_reply })
 
-        by : (v : Bool) → read (becomes v) ≡ own.Place h (cond v Open (Given Sent)) no_reply
-        by true = ap (λ (g : Header). own.Place g Open no_reply) (header_and_back h i)
-        by false = ap (λ (g : Header). own.Place g (Given Sent) no_reply) (header_and_back h i)
+        by : (v : Bool) → read (becomes v) ≡ reads_own h (cond v Open (Given Sent)) no_reply
+        by true = ap (λ (g : Header). reads_own g Open no_reply) (header_and_back h i)
+        by false = ap (λ (g : Header). reads_own g (Given Sent) no_reply) (header_and_back h i)
 
 -- what its onlooker has seen of a place that awaits a reply
 seen_waits : (v : Track) → Reached v → (p : ℕ) → p < 4 → (b : List ℕ) (n : ℕ) → own_place v.link.exchange p ≡ record { header = b; stage = Awaiting n }
@@ -171,14 +169,14 @@ seen_waits v w p within b n e =
 
 -- a message of which an area begins with the bytes is read so
 pub message_read : (y : Exchange) (room : List ℕ) (p : ℕ) (h : Header) (d : List ℕ) (s : ReplyStage) → p < 4 → length room ≡ 36864 → length d ≤ message_limit
-    → incoming_reading y p ≡ incoming.Place h (length d) true s → front room (message.Incoming p) (length d) ≡ d → message_by (incoming_reading y p) room p ≡ d
+    → incoming_reading y p ≡ reads_incoming h (length d) true s → front room (message.Incoming p) (length d) ≡ d → message_by (incoming_reading y p) room p ≡ d
 message_read y room p h d s within whole short complete starts =
-    ap (λ (z : IncomingReading). message_by z room p) complete
+    ap (λ (z : Option IncomingReading). message_by z room p) complete
     ∙ front_read room (message.Incoming p) (length d) (record { whole = whole; place = omega arith; within = omega arith }) ∙ starts
 
 -- a place is read by what it is
-abbrev pub incoming_read : Incoming → IncomingReading
-incoming_read i = cond (incoming_is_free i) incoming.NoPlace (incoming.Place (incoming_primary i) (incoming_length i) (not (incoming_is_open i)) (reply_stage i))
+abbrev pub incoming_read : Incoming → Option IncomingReading
+incoming_read i = cond (incoming_is_free i) None (reads_incoming (incoming_primary i) (incoming_length i) (not (incoming_is_open i)) (reply_stage i))
 
 pub own_read : (x y : Exchange) (p : ℕ) → own_place x p ≡ own_place y p → own_reading x p ≡ own_reading y p
 unfolding own_reading
@@ -352,10 +350,10 @@ module _ (a b : Track) (l : Linked a b) (room far o : List ℕ) (m : Lent room f
         (stands_fours s.terms (passes s.terms y n) (stands_later s.terms y sender_stands n)).own
 
     -- own place p
-    standing : own_reading done p ≡ own.Place h (cond q.w Open (Given Sent)) no_reply
+    standing : own_reading done p ≡ reads_own h (cond q.w Open (Given Sent)) no_reply
     standing =
         sent_shown s.terms y p (length d) h range opened.sending opened.place (spent w (block_count (length d))) own_four opened.lowest.within
-        ∙ ap (λ (v : Bool). own.Place h (cond v Open (Given Sent)) no_reply) opened.as_asked.w
+        ∙ ap (λ (v : Bool). reads_own h (cond v Open (Given Sent)) no_reply) opened.as_asked.w
 
     awaited : q.w ≡ true → Awaited again.here p h × ((again.here.own p).since ≡ 0)
     awaited wants =
@@ -365,7 +363,7 @@ module _ (a b : Track) (l : Linked a b) (room far o : List ℕ) (m : Lent room f
         (ap (λ (u : Link). own_place u.exchange p) again.one
         ∙ awaits_reply s.terms y p (length d) h range opened.sending opened.place (spent w (block_count (length d))) own_four within (opened.as_asked.w ∙ wants)) in (
           record {
-            shown = ap (λ (u : Link). own_of u p) again.one ∙ standing ∙ ap (λ (v : Bool). own.Place h (cond v Open (Given Sent)) no_reply) wants;
+            shown = ap (λ (u : Link). own_of u p) again.one ∙ standing ∙ ap (λ (v : Bool). reads_own h (cond v Open (Given Sent)) no_reply) wants;
             acknowledged = seen.request;
             none = seen.unanswered.kept;
             ranged = range;
@@ -395,7 +393,7 @@ module _ (a b : Track) (l : Linked a b) (room far o : List ℕ) (m : Lent room f
           awaited = awaited;
           place = z.place;
           message = z.primary;
-          complete = z.complete ∙ ap (λ (v : Bool). incoming.Place z.primary (length d) true (cond v reply.Owed reply.NotOwed)) opened.as_asked.w;
+          complete = z.complete ∙ ap (λ (v : Bool). reads_incoming z.primary (length d) true (cond v reply.Owed reply.NotOwed)) opened.as_asked.w;
           same = z.same;
           bytes = message_read r.exchange r.room z.place z.primary d (wanted h) z.within (came_whole n) fits.short z.complete z.bytes;
           notes = z.notes;

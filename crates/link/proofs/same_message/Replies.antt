@@ -22,7 +22,7 @@ use Rattle.place.specs.declared.Verdict.TheVariants.{Answered, Declined}
 use Rattle.exchange.specs.Exchange.{incoming_place, put_incoming, with_sending}
 use Rattle.exchange.specs.Send.{reply_to, outgoing_at, outgoing_of, ended_reply, sent_by, sent_of}
 use Rattle.exchange.specs.Request.{asked_number, sending_by, reply, answer_of}
-use Rattle.exchange.specs.Reading.{reply_stage, incoming_reading}
+use Rattle.exchange.specs.Reading.{reply_stage, incoming_reading, reads_incoming}
 use Rattle.exchange.specs.Rules.{Fours}
 use Rattle.exchange.specs.Releases as side
 use Rattle.exchange.specs.Assembly as assembly
@@ -34,7 +34,6 @@ use Rattle.exchange.proofs.Passing.{sending_stays, kept_on}
 use Rattle.exchange.specs.declared.Sending.{Sending}
 use Rattle.exchange.specs.declared.Sending.TheVariants.{Reply}
 use Rattle.exchange.specs.declared.Exchange.{Exchange}
-use Rattle.exchange.specs.declared.IncomingReading.TheVariants as incoming
 use Rattle.exchange.specs.declared.ReplyStage.{ReplyStage}
 use Rattle.exchange.specs.declared.ReplyStage.TheVariants.{Sent}
 use Rattle.exchange.specs.declared.Outgoing.TheVariants.{Message}
@@ -113,8 +112,8 @@ module _ (c : Terms) (x : Exchange) (p f : ℕ) (r room : List ℕ) (k : ℕ) (t
       ∙ sym (ap (λ (z : Sending). outgoing_at z y) replied.sending) ∙ replied.outgoing
 
   -- what is read of the message before it
-  module _ (g : Header) (n : ℕ) (s : ReplyStage) (shown : incoming_reading x p ≡ incoming.Place g n true s) where
-    before : incoming.Place (incoming_place x p).header replied.size true (reply_stage (at (stage.Complete replied.size))) ≡ incoming.Place g n true s
+  module _ (g : Header) (n : ℕ) (s : ReplyStage) (shown : incoming_reading x p ≡ reads_incoming g n true s) where
+    before : reads_incoming (incoming_place x p).header replied.size true (reply_stage (at (stage.Complete replied.size))) ≡ reads_incoming g n true s
     unfolding incoming_reading
     before = sym (ap (λ (z : IncomingStage). incoming_read (at z)) replied.was) ∙ shown
 
@@ -125,11 +124,11 @@ module _ (c : Terms) (x : Exchange) (p f : ℕ) (r room : List ℕ) (k : ℕ) (t
     size_is = let e = before in cc
 
     -- and once the reply is sent
-    pub sent_read : (m : ℕ) → length (passes c y m).incoming ≡ 4 → p < 4 → incoming_reading (sent_of (passes c y m)).exchange p ≡ incoming.Place g n true Sent
+    pub sent_read : (m : ℕ) → length (passes c y m).incoming ≡ 4 → p < 4 → incoming_reading (sent_of (passes c y m)).exchange p ≡ reads_incoming g n true Sent
     unfolding incoming_reading ended_reply with_sending put_incoming
     sent_read m four within =
         let z : Exchange = passes c y m in
         ap (λ (v : Sending). incoming_read (incoming_place (sent_by v z).exchange p)) (sends_on m)
         ∙ ap incoming_read (get_or-set_same z.incoming p (incoming_sent (incoming_place z p)) fresh_incoming (omega arith))
         ∙ ap (λ (i : Incoming). incoming_read (incoming_sent i)) (stays m)
-        ∙ (λ i. incoming.Place (header_is i) (size_is i) true Sent)
+        ∙ (λ i. reads_incoming (header_is i) (size_is i) true Sent)

@@ -1,6 +1,6 @@
 -- A reply that is accepted where a primary came is the same message where the primary was sent (`specs/SameMessage.antt`). Assumes
 -- nothing.
-use Rattle.std.specs.Prelude.{Ok}
+use Rattle.std.specs.Prelude.{Ok, None, Option, Some}
 use Prim.Native.Nat.{ℕ, suc, ◌+◌, ◌%◌, ◌≤◌, ◌<◌}
 use mathlib.Core.Path.{◌≡◌, refl, sym, ap, subst, ◌∙◌}
 use mathlib.Core.Bool.{Bool, true, false, not, not-not, false≢true}
@@ -46,7 +46,7 @@ use Rattle.table.specs.Incoming.{incoming_at}
 use Rattle.exchange.specs.Exchange.{own_place, incoming_place, sent_from}
 use Rattle.exchange.specs.Send.{sent_of}
 use Rattle.exchange.specs.Request.{sending_by, reply, answer_of}
-use Rattle.exchange.specs.Reading.{own_reading, incoming_reading}
+use Rattle.exchange.specs.Reading.{own_reading, incoming_reading, reads_incoming, reads_own}
 use Rattle.exchange.specs.Rules.{Fours, Duplicate}
 use Rattle.exchange.specs.History.{request}
 use Rattle.exchange.specs.Refusals.{RepliesTo, Replied}
@@ -62,9 +62,7 @@ use Rattle.exchange.specs.declared.Sending.TheVariants as sending
 use Rattle.exchange.specs.declared.Outbox.{Outbox}
 use Rattle.exchange.specs.declared.Exchange.{Exchange}
 use Rattle.exchange.specs.declared.OwnReading.{OwnReading}
-use Rattle.exchange.specs.declared.OwnReading.TheVariants as reading
 use Rattle.exchange.specs.declared.IncomingReading.{IncomingReading}
-use Rattle.exchange.specs.declared.IncomingReading.TheVariants as incoming
 use Rattle.exchange.specs.declared.ReplyStage.{ReplyStage}
 use Rattle.link.specs.Run.{putting_out}
 use Rattle.link.specs.Call.{reply_call}
@@ -104,22 +102,22 @@ awaited_at c h (stage.Done v r) s w open' ack none = absurd (subst HasVerdict op
 -- ---- places that are read
 
 -- there are four of either kind
-own_within : (t : Track) → Reached t → (p : ℕ) (h : Header) (z : Standing) (r : Reply) → own_of t.link p ≡ reading.Place h z r → p < 4
+own_within : (t : Track) → Reached t → (p : ℕ) (h : Header) (z : Standing) (r : Reply) → own_of t.link p ≡ reads_own h z r → p < 4
 own_within t w p h z r e =
     either (ltb 3 p) (λ b. p < 4) (λ b. absurd (not_place (sym e ∙ (none_above t w p (ltb-true 3 p b)).0))) (λ b. omega (arith, ltb-false 3 p b))
   where
-    not_place : reading.Place h z r ≡ reading.NoPlace → ⊥
+    not_place : reads_own h z r ≡ None → ⊥
     not_place f = false≢true (sym (ap in_use f))
 
-incoming_within : (t : Track) → Reached t → (p : ℕ) (h : Header) (n : ℕ) (z : Bool) (s : ReplyStage) → incoming_of t.link p ≡ incoming.Place h n z s → p < 4
+incoming_within : (t : Track) → Reached t → (p : ℕ) (h : Header) (n : ℕ) (z : Bool) (s : ReplyStage) → incoming_of t.link p ≡ reads_incoming h n z s → p < 4
 incoming_within t w p h n z s e =
     either (ltb 3 p) (λ b. p < 4) (λ b. absurd (not_place (sym e ∙ (none_above t w p (ltb-true 3 p b)).1))) (λ b. omega (arith, ltb-false 3 p b))
   where
-    is_place : IncomingReading → Bool
-    is_place incoming.NoPlace = false
-    is_place (incoming.Place g k c r) = true
+    is_place : Option IncomingReading → Bool
+    is_place None = false
+    is_place (Some r) = true
 
-    not_place : incoming.Place h n z s ≡ incoming.NoPlace → ⊥
+    not_place : reads_incoming h n z s ≡ None → ⊥
     not_place f = false≢true (sym (ap is_place f))
 
 apart : (p : ℕ) → message.Send ≡ message.Incoming p → ⊥
@@ -327,11 +325,11 @@ module _ (a b : Track) (l : Linked a b) (room far o : List ℕ) (m : Lent room f
 
     -- what is read of it
     verdict_read : own_reading (back (block_count (length r))).exchange q
-        ≡ reading.Place h (Given won.0) (record { w = false; stream = h.stream; function = f; length = length r })
+        ≡ reads_own h (Given won.0) (record { w = false; stream = h.stream; function = f; length = length r })
     verdict_read =
         let c = replies_to in
         assembled.verdict
-        ∙ (λ i. reading.Place h (Given won.0) (record { w = c.w i; stream = (c.stream ∙ same.stream) i; function = c.function i; length = length r }))
+        ∙ (λ i. reads_own h (Given won.0) (record { w = c.w i; stream = (c.stream ∙ same.stream) i; function = c.function i; length = length r }))
 
     returned : Returned o won.0 p q f r g h e n (message_by (incoming_reading x p) far p) x.saved (later_by o a.link room (ticks_in_all r w))
         (homeward o w (end_of b.link far) (end_of a.link room) p f r)
@@ -358,13 +356,13 @@ module _ (a b : Track) (l : Linked a b) (room far o : List ℕ) (m : Lent room f
               (record { here = back_whole j; there = sent_whole; out = m.out });
           verdict = verdict_read;
           bytes =
-              ap (λ (i : OwnReading). reply_by i c.room q) verdict_read
+              ap (λ (i : Option OwnReading). reply_by i c.room q) verdict_read
               ∙ front_read c.room (message.Reply q) (length r) (record { whole = back_whole j; place = q_within; within = omega (arith, fits.short) })
               ∙ assembled.bytes;
           notes = assembled.notes;
           replied = done;
           still =
-              ap (λ (i : IncomingReading). message_by i sent p) done ∙ message_stays ∙ sym (ap (λ (i : IncomingReading). message_by i far p) shown.so);
+              ap (λ (i : Option IncomingReading). message_by i sent p) done ∙ message_stays ∙ sym (ap (λ (i : Option IncomingReading). message_by i far p) shown.so);
           others = λ i ne. own_read c.exchange later.exchange i (assembled.others i ne ∙ ap (λ (v : List Own). own_at v i) (sym ticks_alone.own));
           incomings = λ i. incoming_read_lem c.exchange later.exchange i (assembled.incomings i ∙ ap (λ (v : List Incoming). incoming_at v i) (sym ticks_alone.incoming));
           saved = assembled.saved;

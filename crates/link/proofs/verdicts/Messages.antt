@@ -1,4 +1,5 @@
 -- Each incoming place's theorems, over the unit's calls (`specs/Verdicts.antt`). Assumes nothing.
+use Rattle.std.specs.Prelude.{None, Option}
 use Prim.Native.Nat.{ℕ, ◌<◌}
 use mathlib.Core.Path.{◌≡◌, refl, sym, ap, ◌∙◌, subst}
 use mathlib.Core.Bool.{Bool, true, false, cond, not, false≢true}
@@ -16,13 +17,12 @@ use Rattle.place.specs.declared.IncomingStage.{IncomingStage}
 use Rattle.place.specs.declared.IncomingStage.TheVariants as stage
 use Rattle.place.specs.declared.Incoming.{Incoming}
 use Rattle.exchange.specs.Exchange.{incoming_place}
-use Rattle.exchange.specs.Reading.{header_by, reply_stage, incoming_reading}
+use Rattle.exchange.specs.Reading.{header_by, reply_stage, incoming_reading, reads_incoming}
 use Rattle.exchange.specs.Request.{freeing_incoming}
 use Rattle.exchange.specs.Releases.{SameMessage}
 use Rattle.exchange.specs.Releases as side
 use Rattle.exchange.specs.declared.Exchange.{Exchange}
 use Rattle.exchange.specs.declared.IncomingReading.{IncomingReading}
-use Rattle.exchange.specs.declared.IncomingReading.TheVariants as arrival
 use Rattle.exchange.proofs.Accepting.{accepted_releases}
 use Rattle.exchange.proofs.Judging.{message_says}
 use Rattle.exchange.proofs.Holding.{IncomingHolds}
@@ -39,8 +39,8 @@ use Rattle.link.proofs.verdicts.Taken.{request_taken, request_leads}
 
 -- ---- what is read
 
-abbrev pub read_as : Incoming → IncomingReading
-read_as i = cond (incoming_is_free i) arrival.NoPlace (arrival.Place (primary_of i) (incoming_length i) (not (incoming_is_open i)) (reply_stage i))
+abbrev pub read_as : Incoming → Option IncomingReading
+read_as i = cond (incoming_is_free i) None (reads_incoming (primary_of i) (incoming_length i) (not (incoming_is_open i)) (reply_stage i))
 
 -- a place shows something
 abbrev pub showing : incoming.Shows → Bool
@@ -51,7 +51,7 @@ showing incoming.replying = true
 showing (incoming.replied e) = true
 
 -- of a place, what it shows: and its header and length, if there is a message
-pub record Reads (r : IncomingReading) (i : Incoming) : Type 0 where
+pub record Reads (r : Option IncomingReading) (i : Incoming) : Type 0 where
   pub there : there_by r ≡ showing (incoming.shows i)
   pub complete : complete_by r ≡ place.is_complete (incoming.shows i)
   pub header : there_by r ≡ true → header_by r ≡ primary_of i

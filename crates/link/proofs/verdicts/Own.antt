@@ -1,4 +1,5 @@
 -- Each own place's theorems, over the unit's calls (`specs/Verdicts.antt`). Assumes nothing.
+use Rattle.std.specs.Prelude.{None}
 use Prim.Native.Nat.{ℕ, ◌<◌}
 use mathlib.Core.Path.{◌≡◌, refl, sym, ap, ◌∙◌, subst}
 use mathlib.Core.Bool.{true, cond, false≢true}
@@ -22,11 +23,10 @@ use Rattle.place.specs.declared.Own.{Own}
 use Rattle.place.specs.declared.OwnStage.{OwnStage}
 use Rattle.place.specs.declared.OwnStage.TheVariants as stage
 use Rattle.exchange.specs.Exchange.{own_place}
-use Rattle.exchange.specs.Reading.{own_reading}
+use Rattle.exchange.specs.Reading.{own_reading, reads_own}
 use Rattle.exchange.specs.Request.{freeing_own}
 use Rattle.exchange.specs.Releases as side
 use Rattle.exchange.specs.declared.Exchange.{Exchange}
-use Rattle.exchange.specs.declared.OwnReading.TheVariants as reading
 use Rattle.exchange.proofs.Accepting.{accepted_releases}
 use Rattle.exchange.proofs.Holding.{OwnHolds}
 use Rattle.exchange.proofs.Areas.{always}
@@ -45,7 +45,7 @@ use Rattle.link.proofs.verdicts.Taken.{request_taken, request_leads}
 
 -- ---- what is read
 
-by_standing : (z : Standing) (h : Header) (r : Reply) → standing_by (cond (free_by z) reading.NoPlace (reading.Place h z r)) ≡ z
+by_standing : (z : Standing) (h : Header) (r : Reply) → standing_by (cond (free_by z) None (reads_own h z r)) ≡ z
 by_standing Free h r = refl
 by_standing Open h r = refl
 by_standing (Given v) h r = refl
@@ -59,7 +59,7 @@ read_so : (t : Track) (p : ℕ) (P : Standing → Type 0) → P (own_standing (o
 read_so t p P w = subst P (sym (standing_read t p)) w
 
 -- a place in use is read with its request
-in_use_lem : (z : Standing) (h : Header) (r : Reply) → (z ≡ Free → ⊥) → cond (free_by z) reading.NoPlace (reading.Place h z r) ≡ reading.Place h z r
+in_use_lem : (z : Standing) (h : Header) (r : Reply) → (z ≡ Free → ⊥) → cond (free_by z) None (reads_own h z r) ≡ reads_own h z r
 in_use_lem Free h r used = absurd (used refl)
 in_use_lem Open h r used = refl
 in_use_lem (Given v) h r used = refl

@@ -1,4 +1,5 @@
 -- What a user reads of any unit: bytes, whether a message is being sent, and which places are free. Assumes nothing.
+use Rattle.std.specs.Prelude.{None, Option, Some}
 use Prim.Native.Nat.{ℕ}
 use mathlib.Core.Path.{◌≡◌, refl, sym, ◌∙◌}
 use mathlib.Core.List.{List}
@@ -8,23 +9,22 @@ use Rattle.room.proofs.Reading.{none_of}
 use Rattle.place.proofs.Tests.{own_tests, incoming_tests}
 use Rattle.exchange.specs.Exchange.{own_place, incoming_place}
 use Rattle.exchange.specs.declared.OwnReading.{OwnReading}
-use Rattle.exchange.specs.declared.OwnReading.TheVariants as own
 use Rattle.exchange.specs.declared.IncomingReading.{IncomingReading}
-use Rattle.exchange.specs.declared.IncomingReading.TheVariants as incoming
 use Rattle.exchange.proofs.Judging.{is_free}
 use Rattle.exchange.proofs.Refusing.{sends, own_is_free}
 use Rattle.link.specs.Reading.{own_of, incoming_of, reply_by, message_by}
 use Rattle.link.specs.Verdicts.{reply_in, FreeAsRead, length_by, DataRead, SendingRead}
 use Rattle.link.proofs.verdicts.Messages.{none_read}
 use Rattle.link.proofs.verdicts.Own.{standing_read}
+use Rattle.exchange.specs.Reading.{reads_incoming, reads_own}
 
-reply_shown : (r : OwnReading) (room : List ℕ) (p : ℕ) → reply_by r room p ≡ bytes_in room (message.Reply p) 0 (reply_in r).length
-reply_shown own.NoPlace room p = sym (none_of room (message.Reply p) 0)
-reply_shown (own.Place h s r) room p = refl
+reply_shown : (r : Option OwnReading) (room : List ℕ) (p : ℕ) → reply_by r room p ≡ bytes_in room (message.Reply p) 0 (reply_in r).length
+reply_shown None room p = sym (none_of room (message.Reply p) 0)
+reply_shown (Some r) room p = refl
 
-message_shown : (r : IncomingReading) (room : List ℕ) (p : ℕ) → message_by r room p ≡ bytes_in room (message.Incoming p) 0 (length_by r)
-message_shown incoming.NoPlace room p = sym (none_of room (message.Incoming p) 0)
-message_shown (incoming.Place h n c r) room p = refl
+message_shown : (r : Option IncomingReading) (room : List ℕ) (p : ℕ) → message_by r room p ≡ bytes_in room (message.Incoming p) 0 (length_by r)
+message_shown None room p = sym (none_of room (message.Incoming p) 0)
+message_shown (Some r) room p = refl
 
 pub data_read : DataRead
 data_read u room p = record { reply = reply_shown (own_of u p) room p; incoming = message_shown (incoming_of u p) room p }
