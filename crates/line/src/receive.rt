@@ -6,7 +6,7 @@ ghost use Rattle.line.specs.Line.{body_byte, body_tick, heard, length_byte, leng
 use crate::line::Line;
 use crate::phase::{Arrival, Fault, Phase};
 use crate::step::{Out, Remark, Step, Told};
-use settings::{Limits, Timer};
+use settings::Limits;
 
 impl Line {
     // The length byte. After a bad one the sender may still be talking: no NAK before it is silent (E4 5.8.5).
@@ -92,8 +92,8 @@ impl Line {
         ensures { result ≡ length_tick self (ticked limits.t2 timer) }
     {
         match limits.t2.tick(timer) {
-            Timer::RunsOut => self.naks(Remark::NoLength),
-            Timer::Runs(timer) => self.goes(Phase::WaitLength { timer }, Out::Nothing),
+            None => self.naks(Remark::NoLength),
+            Some(timer) => self.goes(Phase::WaitLength { timer }, Out::Nothing),
         }
     }
 
@@ -101,8 +101,8 @@ impl Line {
         ensures { result ≡ body_tick self block (ticked limits.t1 timer) }
     {
         match limits.t1.tick(timer) {
-            Timer::RunsOut => self.naks(Remark::Gap),
-            Timer::Runs(timer) => self.goes(Phase::Body { timer, block }, Out::Nothing),
+            None => self.naks(Remark::Gap),
+            Some(timer) => self.goes(Phase::Body { timer, block }, Out::Nothing),
         }
     }
 
@@ -110,8 +110,8 @@ impl Line {
         ensures { result ≡ silence_tick self fault (ticked limits.t1 timer) }
     {
         match limits.t1.tick(timer) {
-            Timer::RunsOut => self.naks(Remark::Bad(fault)),
-            Timer::Runs(timer) => self.goes(Phase::Silence { timer, fault }, Out::Nothing),
+            None => self.naks(Remark::Bad(fault)),
+            Some(timer) => self.goes(Phase::Silence { timer, fault }, Out::Nothing),
         }
     }
 }

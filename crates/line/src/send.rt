@@ -6,7 +6,7 @@ ghost use Rattle.line.specs.Line.{ack_byte, ack_tick, eot_byte, eot_tick, give_w
 use crate::line::Line;
 use crate::phase::Phase;
 use crate::step::{Out, Remark, Step, Told};
-use settings::{Limits, Timer};
+use settings::Limits;
 
 impl Line {
     // The attempt is lost: the next one, or none more.
@@ -68,8 +68,8 @@ impl Line {
         ensures { result ≡ eot_tick limits self tries (ticked limits.t2 timer) }
     {
         match limits.t2.tick(timer) {
-            Timer::RunsOut => self.retry(limits, tries),
-            Timer::Runs(timer) => self.goes(Phase::WaitEot { timer, tries }, Out::Nothing),
+            None => self.retry(limits, tries),
+            Some(timer) => self.goes(Phase::WaitEot { timer, tries }, Out::Nothing),
         }
     }
 
@@ -77,8 +77,8 @@ impl Line {
         ensures { result ≡ ack_tick limits self tries (ticked limits.t2 timer) }
     {
         match limits.t2.tick(timer) {
-            Timer::RunsOut => self.retry(limits, tries),
-            Timer::Runs(timer) => self.goes(Phase::WaitAck { timer, tries }, Out::Nothing),
+            None => self.retry(limits, tries),
+            Some(timer) => self.goes(Phase::WaitAck { timer, tries }, Out::Nothing),
         }
     }
 }

@@ -2,8 +2,8 @@
 use mathlib.Core.Path.{sym, ◌∙◌}
 use Rattle.line.proofs.line.Line.length_tick.Goals as goal
 
-pub returns-in-RunsOut : goal.returns-in-RunsOut
-returns-in-RunsOut c = simp (sym c.tick.ensures ∙ c.in-RunsOut.is) c.naks.ensures
+pub returns-in-None : goal.returns-in-None
+returns-in-None c = simp (sym c.tick.ensures ∙ c.in-None.is) c.naks.ensures
 
-pub returns-in-Runs : goal.returns-in-Runs
-returns-in-Runs c = simp (sym c.tick.ensures ∙ c.in-Runs.is) c.goes.ensures
+pub returns-in-Some : goal.returns-in-Some
+returns-in-Some c = simp (sym c.tick.ensures ∙ c.in-Some.is) c.goes.ensures
