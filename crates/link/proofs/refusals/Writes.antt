@@ -49,7 +49,7 @@ use Rattle.link.proofs.Cases.{by_byte, by_answer, answering}
 use Rattle.link.proofs.door.Bytes.{leaves_by_line}
 use Rattle.link.proofs.refusals.Rows.{behind, by_rows, by_passing, refused_changes_nothing}
 use Rattle.link.proofs.refusals.Room.{size_behind, fills_behind}
-use Rattle.std.specs.Prelude.{Option, None}
+use Rattle.std.specs.Prelude.{Option, None, Some}
 
 -- ---- how many bytes leave
 
@@ -79,9 +79,9 @@ block_most h d few =
     omega (arith, frame_length (header_bytes h ++ d) (checksum_of (header_bytes h ++ d)), length-append (header_bytes h) d, header_ten h)
 
 cut_most : (h : Header) (n k : ℕ) (room : List ℕ) (c : Option Cut) → cut_of h n k ≡ c → length (bytes_by c room) ≤ 257
-cut_most h n k room (cut_at of start size) e =
-    block_most of (bytes_in room message.Send start size)
-    (omega (arith, read_most room message.Send start size, (cut_blocks h of n k start size e).most))
+cut_most h n k room (Some b) e =
+    block_most b.header (bytes_in room message.Send b.start b.length)
+    (omega (arith, read_most room message.Send b.start b.length, (cut_blocks h b.header n k b.start b.length e).most))
 cut_most h n k room None e = omega arith
 
 -- a report has twelve data bytes

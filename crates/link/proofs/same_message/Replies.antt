@@ -22,7 +22,7 @@ use Rattle.place.specs.declared.Verdict.TheVariants.{Answered, Declined}
 use Rattle.exchange.specs.Exchange.{incoming_place, put_incoming, with_sending}
 use Rattle.exchange.specs.Send.{reply_to, outgoing_at, outgoing_of, ended_reply, sent_by, sent_of}
 use Rattle.exchange.specs.Request.{asked_number, sending_by, reply, answer_of}
-use Rattle.exchange.specs.Reading.{reply_stage, incoming_reading, reads_incoming}
+use Rattle.exchange.specs.Reading.{reply_stage, incoming_reading, reads_incoming, header_by}
 use Rattle.exchange.specs.Rules.{Fours}
 use Rattle.exchange.specs.Releases as side
 use Rattle.exchange.specs.Assembly as assembly
@@ -38,6 +38,7 @@ use Rattle.exchange.specs.declared.ReplyStage.{ReplyStage}
 use Rattle.exchange.specs.declared.ReplyStage.TheVariants.{Sent}
 use Rattle.exchange.specs.declared.Outgoing.TheVariants.{Message}
 use Rattle.link.specs.SameMessage.{Earns, one_higher, function_0}
+use Rattle.link.specs.Verdicts.{length_by}
 use Rattle.link.proofs.same_message.Delivers.{incoming_read}
 
 -- ---- the function of a reply
@@ -118,10 +119,10 @@ module _ (c : Terms) (x : Exchange) (p f : ℕ) (r room : List ℕ) (k : ℕ) (t
     before = sym (ap (λ (z : IncomingStage). incoming_read (at z)) replied.was) ∙ shown
 
     pub header_is : (incoming_place x p).header ≡ g
-    header_is = let e = before in cc
+    header_is = ap header_by before
 
     pub size_is : replied.size ≡ n
-    size_is = let e = before in cc
+    size_is = ap length_by before
 
     -- and once the reply is sent
     pub sent_read : (m : ℕ) → length (passes c y m).incoming ≡ 4 → p < 4 → incoming_reading (sent_of (passes c y m)).exchange p ≡ reads_incoming g n true Sent

@@ -29,6 +29,10 @@ none_open last (suc (suc zero)) = refl
 none_open last (suc (suc (suc zero))) = refl
 none_open last (suc (suc (suc (suc p)))) = refl
 
+-- "none at a start"
+no_header_saved : (h : List ℕ) → ◌≡◌ {A = Option (List ℕ)} None (Some h) → ⊥
+no_header_saved h e = let z : ◌≡◌ {A = ℕ} 0 1 = cc in false≢true cc
+
 none_alike : (last : ℕ) (h : Header) → AlikeHere (fresh_exchange last) h → ⊥
 none_alike last h w = false≢true (sym (none_open last w.place) ∙ w.so.0)
 
@@ -48,6 +52,6 @@ starts_linked s t fits far_fits last far_last roles device room far whole far_wh
   takes = λ h d. record {
     free = record { place = 0; within = omega arith; so = refl };
     no_alike = none_alike t.last h;
-    new = λ w. (let z : ◌≡◌ {A = Option (List ℕ)} None (Some (header_in h d 1)) = w.same in cc);
+    new = λ w. no_header_saved _ w.same;
   };
 }
