@@ -6,11 +6,7 @@ ghost use Rattle.wire.specs.Lent.{put_at};
 pub fn put(out: &mut [u8], at: usize, src: &[u8])
     ensures { out.new ≡ put_at out.old at src.now }
 {
-    if out.len() < at {
-        return;
+    if at <= out.len() && src.len() <= out.len() - at {
+        out[at..at + src.len()].copy_from_slice(src);
     }
-    if out.len() - at < src.len() {
-        return;
-    }
-    out[at..at + src.len()].copy_from_slice(src);
 }

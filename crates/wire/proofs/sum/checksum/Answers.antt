@@ -3,10 +3,10 @@ use Rattle.wire.specs.Sum.{plain_sum, checksum_of}
 use Rattle.wire.proofs.Sums.{sum_next}
 use Rattle.wire.proofs.sum.checksum.Goals as goal
 
-pub loop-i-init : goal.loop-i-init
+pub loop-byte-init : goal.loop-byte-init
 unfolding plain_sum checksum_of
-loop-i-init c = (omega arith, refl)
+loop-byte-init c = refl
 
-pub loop-i-preserved : goal.loop-i-preserved
-loop-i-preserved c =
-    (omega arith, c.sum_with-sum.ensures ∙ rw c.loop-i.invariant.1 (sym (sum_next c.args.bytes.now c.loop-i.i (omega arith))))
+pub loop-byte-preserved : goal.loop-byte-preserved
+loop-byte-preserved c =
+    c.sum_with-sum.ensures ∙ rw c.loop-byte.invariant (sym (sum_next c.args.bytes.now c.loop-byte.byte-index (omega arith)))
