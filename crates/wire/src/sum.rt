@@ -11,6 +11,7 @@ pub fn sum_with(sum: u16, byte: u8) -> u16
 }
 
 // The sum of all of `bytes`. Those of a block are 254 at most, and their sum never wraps.
+#[tactic(auto, unfolding(crate::specs::Sum::plain_sum, crate::specs::Sum::checksum_of, crate::specs::Sum::sum_with), using(crate::proofs::Sums::sum_next))]
 pub fn checksum(bytes: &[u8]) -> u16
     ensures { result ≡ checksum_of bytes.now }
 {
