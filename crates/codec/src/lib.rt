@@ -16,16 +16,11 @@ use header::Header;
 use wire::{checksum, halves, pair, put};
 
 // Whether a block length is one that E4 5.6 allows, and is the bytes given.
+#[tactic(auto, unfolding(block::specs::Block::length_good))]
 fn good_length(length: usize, given: usize) -> bool
     ensures { result ≡ length_good length given }
 {
-    if length < 10 {
-        return false;
-    }
-    if 254 < length {
-        return false;
-    }
-    length == given
+    (10..=254).contains(&length) && length == given
 }
 
 // Puts a block into an output that has room for it: length byte, header, data, and the sum with its high byte first.
@@ -34,17 +29,16 @@ fn put_block(header: [u8; 10], data: &[u8], out: &mut [u8])
     ensures { out.new ≡ on_front (framed (header ++ «data».now)) out.old }
 {
     let n = 10 + data.len();
-    let sum = std::num::wrapping_add_u16(checksum(&header), checksum(data));
-    let first = [(n % 256) as u8];
-    let last = halves(sum);
-    put(out, 0, &first);
+    let sum = checksum(&header).wrapping_add(checksum(data));
+    put(out, 0, &[n as u8]);
     put(out, 1, &header);
     put(out, 11, data);
-    put(out, n + 1, &last);
+    put(out, n + 1, &halves(sum));
 }
 
 // Writes the block of a header and data into a lent output. `length` is the block length N that the caller means
 // to send; it must be the ten bytes of the header and all of `data`.
+#[tactic(auto, unfolding(block::specs::Block::write_of, block::specs::Block::output_short, block::specs::Block::refused_write, block::specs::Block::taken_write), using(block::proofs::Reading::good_length))]
 pub fn write_block(length: usize, header: Header, data: &[u8], out: &mut [u8]) -> Written
     ensures { writing result out.new ≡ write_of length header «data».now out.old }
 {
@@ -58,58 +52,57 @@ pub fn write_block(length: usize, header: Header, data: &[u8], out: &mut [u8]) -
     Written::Refused(Refusal::BlockLength)
 }
 
-// A length byte as a number of bytes.
-fn count(byte: u8) -> usize
-    ensures { result ≡ byte }
-{
-    byte as usize
-}
-
 // The first ten bytes of a slice.
+#[tactic(auto, using(header::proofs::Headers::first_ten_lem))]
 fn first_ten(s: &[u8]) -> [u8; 10]
     requires { 10 ≤ length s.now }
     ensures { result ≡ first_ten s.now }
 {
-    [s[0], s[1], s[2], s[3], s[4], s[5], s[6], s[7], s[8], s[9]]
+    let mut ten = [0; 10];
+    ten.copy_from_slice(&s[..10]);
+    ten
 }
 
 // Reads a block whose length N is good: what is left to judge is its sum.
+#[tactic(auto, unfolding(block::specs::Block::read_sized, block::specs::Block::sums_agree, header::specs::Header::header_of, wire::specs::Bytes::part))]
 fn read_sized(line: &[u8], n: usize) -> Read
     requires { GoodLength n (length line.now - 3) }
     ensures { result ≡ read_sized line.now n }
 {
-    let end = n + 1;
-    let body = &line[1..end];
-    if checksum(body) == pair(line[end], line[n + 2]) {
-        return Read::Block {
+    let body = &line[1..n + 1];
+    if checksum(body) == pair(line[n + 1], line[n + 2]) {
+        Read::Block {
             header: Header::from_bytes(first_ten(body)),
             length: n,
-        };
+        }
+    } else {
+        Read::Refused(Refusal::ChecksumDiffers)
     }
-    Read::Refused(Refusal::ChecksumDiffers)
 }
 
 // Reads a block as it stood on the line, from its length byte to the second byte of its sum.
+#[tactic(auto, unfolding(block::specs::Block::read_of), using(block::proofs::Reading::good_length, block::proofs::Reading::read_short))]
 pub fn read_block(line: &[u8]) -> Read
     ensures { result ≡ read_of line.now }
 {
     if line.len() < 3 {
         return Read::Refused(Refusal::BlockLength);
     }
-    let n = count(line[0]);
+    let n = usize::from(line[0]);
     if good_length(n, line.len() - 3) {
-        return read_sized(line, n);
+        read_sized(line, n)
+    } else {
+        Read::Refused(Refusal::BlockLength)
     }
-    Read::Refused(Refusal::BlockLength)
 }
 
 // The bytes behind the header of a block of length N.
+#[tactic(auto, unfolding(wire::specs::Bytes::part))]
 fn data_part(line: &[u8], n: usize) -> &[u8]
     requires { GoodLength n (length line.now - 3) }
     ensures { result.now ≡ part 11 (n + 1) line.now }
 {
-    let end = n + 1;
-    &line[11..end]
+    &line[11..n + 1]
 }
 
 // The data of a good block, as a part of the slice that it was read from. A refused block has none.
@@ -117,8 +110,8 @@ pub fn block_data(line: &[u8]) -> &[u8]
     ensures { result.now ≡ data_in (read_of line.now) line.now }
 {
     match read_block(line) {
-        Read::Block { header: _, length } => data_part(line, length),
-        Read::Refused(_) => &line[0..0],
+        Read::Block { length, .. } => data_part(line, length),
+        Read::Refused(_) => &line[..0],
     }
 }
 

@@ -2,7 +2,7 @@
 ghost use Rattle.std.specs.Prelude.{◌≡◌, ◌≤◌};
 ghost use Rattle.header.specs.Header.{header_bytes, header_of, numbered_of, top_bit};
 
-use wire::{pair, quad, quarters};
+use wire::{halves, pair, quad, quarters};
 
 #[derive(Clone, Copy)]
 pub struct Header {
@@ -33,17 +33,20 @@ fn top_bit(on: bool) -> u8
 impl Header {
     // The ten bytes. A device ID and a block number have 15 bits there, a stream 7: what a field has above them
     // does not go out.
+    #[tactic(auto, unfolding(crate::specs::Header::header_bytes))]
     pub fn bytes(self) -> [u8; 10]
         ensures { result ≡ header_bytes self }
     {
+        let device = halves(self.device);
+        let number = halves(self.number);
         let system = quarters(self.system);
         [
-            top_bit(self.r) + (self.device / 256 % 128) as u8,
-            (self.device % 256) as u8,
+            top_bit(self.r) + device[0] % 128,
+            device[1],
             top_bit(self.w) + self.stream % 128,
             self.function,
-            top_bit(self.e) + (self.number / 256 % 128) as u8,
-            (self.number % 256) as u8,
+            top_bit(self.e) + number[0] % 128,
+            number[1],
             system[0],
             system[1],
             system[2],
@@ -52,6 +55,7 @@ impl Header {
     }
 
     // What ten bytes say. Any ten do.
+    #[tactic(auto, unfolding(crate::specs::Header::header_of))]
     pub fn from_bytes(b: [u8; 10]) -> Header
         ensures { result ≡ header_of b }
     {
@@ -72,14 +76,9 @@ impl Header {
         ensures { result ≡ numbered_of self number last }
     {
         Header {
-            r: self.r,
-            device: self.device,
-            w: self.w,
-            stream: self.stream,
-            function: self.function,
             e: last,
             number,
-            system: self.system,
+            ..self
         }
     }
 }

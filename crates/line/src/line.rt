@@ -27,46 +27,9 @@ impl Line {
     pub fn fresh() -> Line
         ensures { result ≡ fresh_line }
     {
-        let phase = Phase::Idle;
-        Line { held: false, phase }
-    }
-
-    // The line at another phase, with what goes out.
-    pub(crate) fn goes(self, phase: Phase, out: Out) -> Step
-        ensures { result ≡ Rattle.line.specs.Line.goes self phase out }
-    {
-        self.tells(phase, out, Told::Nothing)
-    }
-
-    // The same, and this is told.
-    pub(crate) fn tells(self, phase: Phase, out: Out, told: Told) -> Step
-        ensures { result ≡ Rattle.line.specs.Line.tells self phase out told }
-    {
-        let line = Line {
-            held: self.held,
-            phase,
-        };
-        Step {
-            line,
-            out,
-            told,
-            remark: Remark::Nothing,
-        }
-    }
-
-    // The same, and this is remarked.
-    pub(crate) fn remarks(self, phase: Phase, out: Out, remark: Remark) -> Step
-        ensures { result ≡ Rattle.line.specs.Line.remarks self phase out remark }
-    {
-        let line = Line {
-            held: self.held,
-            phase,
-        };
-        Step {
-            line,
-            out,
-            told: Told::Nothing,
-            remark,
+        Line {
+            held: false, // nothing is asked for yet
+            phase: Phase::Idle,
         }
     }
 
@@ -82,16 +45,46 @@ impl Line {
         }
     }
 
+    // The line at another phase, with what goes out.
+    pub(crate) fn goes(self, phase: Phase, out: Out) -> Step
+        ensures { result ≡ Rattle.line.specs.Line.goes self phase out }
+    {
+        Step {
+            out,
+            ..Line { phase, ..self }.stays()
+        }
+    }
+
+    // The same, and this is told.
+    pub(crate) fn tells(self, phase: Phase, out: Out, told: Told) -> Step
+        ensures { result ≡ Rattle.line.specs.Line.tells self phase out told }
+    {
+        Step {
+            told,
+            ..self.goes(phase, out)
+        }
+    }
+
+    // The same, and this is remarked.
+    pub(crate) fn remarks(self, phase: Phase, out: Out, remark: Remark) -> Step
+        ensures { result ≡ Rattle.line.specs.Line.remarks self phase out remark }
+    {
+        Step {
+            remark,
+            ..self.goes(phase, out)
+        }
+    }
+
     // The line with a block held.
     #[tactic(auto, unfolding(crate::specs::Line::holding))]
     pub(crate) fn holding(self) -> Line
         ensures { result ≡ Rattle.line.specs.Line.holding self }
     {
-        let phase = self.phase;
-        Line { held: true, phase }
+        Line { held: true, ..self }
     }
 
     // ENQ is answered at once: the line never stalls a sender (E4 R1-1.3).
+    #[tactic(auto, unfolding(crate::specs::Line::idle_byte))]
     fn idle_byte(self, b: u8) -> Step
         ensures { result ≡ idle_byte self b }
     {
@@ -106,15 +99,14 @@ impl Line {
     pub fn byte(self, limits: Limits, b: u8, received: &mut [u8; 256]) -> Step
         ensures { heard result received.new ≡ byte_of limits self b received.old }
     {
-        let phase = self.phase;
-        match phase {
+        match self.phase {
             Phase::Idle => self.idle_byte(b),
-            Phase::WaitEot { timer: _, tries } => self.eot_byte(limits, tries, b),
-            Phase::Draining { tries: _ } => self.stays(),
-            Phase::WaitAck { timer: _, tries } => self.ack_byte(limits, tries, b),
-            Phase::WaitLength { timer: _ } => self.length_byte(b),
-            Phase::Body { timer: _, block } => self.body_byte(block, b, received),
-            Phase::Silence { timer: _, fault } => self.listens(fault),
+            Phase::WaitEot { tries, .. } => self.eot_byte(limits, tries, b),
+            Phase::Draining { .. } => self.stays(),
+            Phase::WaitAck { tries, .. } => self.ack_byte(limits, tries, b),
+            Phase::WaitLength { .. } => self.length_byte(b),
+            Phase::Body { block, .. } => self.body_byte(block, b, received),
+            Phase::Silence { fault, .. } => self.listens(fault),
         }
     }
 
@@ -122,11 +114,9 @@ impl Line {
     pub fn tick(self, limits: Limits) -> Step
         ensures { result ≡ tick_of limits self }
     {
-        let phase = self.phase;
-        match phase {
-            Phase::Idle => self.stays(),
+        match self.phase {
+            Phase::Idle | Phase::Draining { .. } => self.stays(),
             Phase::WaitEot { timer, tries } => self.eot_tick(limits, timer, tries),
-            Phase::Draining { tries: _ } => self.stays(),
             Phase::WaitAck { timer, tries } => self.ack_tick(limits, timer, tries),
             Phase::WaitLength { timer } => self.length_tick(limits, timer),
             Phase::Body { timer, block } => self.body_tick(limits, timer, block),
@@ -138,20 +128,19 @@ impl Line {
     pub fn drained(self) -> Line
         ensures { result ≡ drained_of self }
     {
-        let phase = self.phase;
-        match phase {
-            Phase::Idle => self,
-            Phase::WaitEot { timer: _, tries: _ } => self,
+        match self.phase {
             Phase::Draining { tries } => {
                 Line {
-                    held: self.held,
                     phase: Phase::WaitAck { timer: 0, tries },
+                    ..self
                 }
             }
-            Phase::WaitAck { timer: _, tries: _ } => self, // said twice, it starts no second wait
-            Phase::WaitLength { timer: _ } => self,
-            Phase::Body { timer: _, block: _ } => self,
-            Phase::Silence { timer: _, fault: _ } => self,
+            Phase::WaitAck { .. } => self, // said twice, it starts no second wait
+            Phase::Idle
+            | Phase::WaitEot { .. }
+            | Phase::WaitLength { .. }
+            | Phase::Body { .. }
+            | Phase::Silence { .. } => self,
         }
     }
 
@@ -160,15 +149,10 @@ impl Line {
     pub fn ask(self) -> Line
         ensures { result ≡ ask_of self }
     {
-        let phase = self.phase;
-        match phase {
-            Phase::Idle => self.holding(),
-            Phase::WaitEot { timer: _, tries: _ } => self,
-            Phase::Draining { tries: _ } => self,
-            Phase::WaitAck { timer: _, tries: _ } => self,
-            Phase::WaitLength { timer: _ } => self.holding(),
-            Phase::Body { timer: _, block: _ } => self.holding(),
-            Phase::Silence { timer: _, fault: _ } => self.holding(),
+        match self.phase {
+            Phase::WaitEot { .. } | Phase::Draining { .. } | Phase::WaitAck { .. } => self,
+            Phase::Idle | Phase::WaitLength { .. } | Phase::Body { .. } | Phase::Silence { .. } =>
+                self.holding(),
         }
     }
 
@@ -176,26 +160,19 @@ impl Line {
     pub fn withdraw(self) -> Line
         ensures { result ≡ withdraw_of self }
     {
-        let held = false;
-        let phase = self.phase;
-        Line { held, phase }
+        Line {
+            held: false,
+            ..self
+        }
     }
 
     // A held block starts with a count and a timer of its own.
+    #[tactic(auto, unfolding(crate::specs::Line::settle_idle))]
     fn settle_idle(self) -> Step
         ensures { result ≡ settle_idle self }
     {
         if self.held {
-            let line = Line {
-                held: false,
-                phase: Phase::WaitEot { timer: 0, tries: 0 },
-            };
-            Step {
-                line,
-                out: Out::Code(Line::ENQ),
-                told: Told::Nothing,
-                remark: Remark::Nothing,
-            }
+            self.withdraw().goes(Phase::WaitEot { timer: 0, tries: 0 }, Out::Code(Line::ENQ))
         } else {
             self.stays()
         }
@@ -205,15 +182,14 @@ impl Line {
     pub fn settle(self) -> Step
         ensures { result ≡ settle_of self }
     {
-        let phase = self.phase;
-        match phase {
+        match self.phase {
             Phase::Idle => self.settle_idle(),
-            Phase::WaitEot { timer: _, tries: _ } => self.stays(),
-            Phase::Draining { tries: _ } => self.stays(),
-            Phase::WaitAck { timer: _, tries: _ } => self.stays(),
-            Phase::WaitLength { timer: _ } => self.stays(),
-            Phase::Body { timer: _, block: _ } => self.stays(),
-            Phase::Silence { timer: _, fault: _ } => self.stays(),
+            Phase::WaitEot { .. }
+            | Phase::Draining { .. }
+            | Phase::WaitAck { .. }
+            | Phase::WaitLength { .. }
+            | Phase::Body { .. }
+            | Phase::Silence { .. } => self.stays(),
         }
     }
 }

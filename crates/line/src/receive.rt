@@ -10,21 +10,19 @@ use settings::Limits;
 
 impl Line {
     // The length byte. After a bad one the sender may still be talking: no NAK before it is silent (E4 5.8.5).
+    #[tactic(auto, unfolding(crate::specs::Line::length_byte, settings::specs::Panel::between))]
     pub(crate) fn length_byte(self, b: u8) -> Step
         ensures { result ≡ length_byte self b }
     {
-        if b < 10 {
-            self.listens(Fault::Length)
-        } else if 254 < b {
-            self.listens(Fault::Length)
-        } else {
-            let block = Arrival {
+        if (10..=254).contains(&b) {
+            self.takes(Arrival {
                 length: b,
                 got: 0,
                 sum: 0,
                 high: 0,
-            };
-            self.takes(block)
+            })
+        } else {
+            self.listens(Fault::Length)
         }
     }
 
@@ -43,6 +41,7 @@ impl Line {
     }
 
     // The last byte of a block: the sum that came is held against the sum that was counted.
+    #[tactic(auto, unfolding(crate::specs::Line::low_byte))]
     fn low_byte(self, length: u8, counted: u16, received: u16) -> Step
         ensures { result ≡ low_byte self length counted received }
     {
@@ -54,28 +53,24 @@ impl Line {
     }
 
     // One of the N + 2 bytes after the length byte: the N of the block, then the two of the sum.
+    #[tactic(auto, unfolding(crate::specs::Line::body_byte))]
     pub(crate) fn body_byte(self, block: Arrival, b: u8, received: &mut [u8; 256]) -> Step
         ensures { heard result received.new ≡ body_byte self block b received.old }
     {
-        let n = block.length as u16;
-        let got = block.got;
-        if got < n {
-            received[got as usize] = b;
-            let more = Arrival {
-                length: block.length,
-                got: got + 1,
+        let length = u16::from(block.length);
+        if block.got < length {
+            received[usize::from(block.got)] = b;
+            self.takes(Arrival {
+                got: block.got + 1,
                 sum: wire::sum_with(block.sum, b),
-                high: block.high,
-            };
-            self.takes(more)
-        } else if got == n {
-            let more = Arrival {
-                length: block.length,
-                got: got + 1,
-                sum: block.sum,
+                ..block
+            })
+        } else if block.got == length {
+            self.takes(Arrival {
+                got: block.got + 1,
                 high: b,
-            };
-            self.takes(more)
+                ..block
+            })
         } else {
             self.low_byte(block.length, block.sum, wire::pair(block.high, b))
         }

@@ -10,6 +10,7 @@ use settings::Limits;
 
 impl Line {
     // The attempt is lost: the next one, or none more.
+    #[tactic(auto, unfolding(crate::specs::Line::retry_of, crate::specs::Line::spent))]
     fn retry(self, limits: Limits, tries: u8) -> Step
         ensures { result ≡ retry_of limits self tries }
     {
@@ -27,6 +28,7 @@ impl Line {
     }
 
     // Both ends want to send: the slave's block waits (E4 5.8.2.1), the master's goes on.
+    #[tactic(auto, unfolding(crate::specs::Line::give_way))]
     fn give_way(self, limits: Limits) -> Step
         ensures { result ≡ give_way limits self }
     {
@@ -42,6 +44,7 @@ impl Line {
     }
 
     // While waiting for EOT, any byte but EOT and ENQ is dropped.
+    #[tactic(auto, unfolding(crate::specs::Line::eot_byte))]
     pub(crate) fn eot_byte(self, limits: Limits, tries: u8, b: u8) -> Step
         ensures { result ≡ eot_byte limits self tries b }
     {
@@ -54,6 +57,7 @@ impl Line {
         }
     }
 
+    #[tactic(auto, unfolding(crate::specs::Line::ack_byte))]
     pub(crate) fn ack_byte(self, limits: Limits, tries: u8, b: u8) -> Step
         ensures { result ≡ ack_byte limits self tries b }
     {

@@ -1,6 +1,6 @@
 // What a call on the line hands back.
 ghost use Rattle.std.specs.Prelude.{◌≡◌};
-ghost use Rattle.line.specs.Codes.{fault_note, note_of};
+ghost use Rattle.line.specs.Codes.{note_of};
 
 use crate::line::Line;
 use crate::phase::Fault;
@@ -51,31 +51,17 @@ pub struct Step {
     pub remark: Remark,
 }
 
-impl Fault {
-    fn note(self) -> u8
-        ensures { result ≡ fault_note self }
-    {
-        match self {
-            Fault::Length => 30,
-            Fault::Sum {
-                received: _,
-                counted: _,
-            } => 31,
-        }
-    }
-}
-
 impl Remark {
     // The note of a call that ends here. That of a block which went up is its judge's.
     pub fn note(self) -> u8
         ensures { result ≡ note_of self }
     {
         match self {
-            Remark::Nothing => 20,
-            Remark::GaveWay => 20,
+            Remark::Nothing | Remark::GaveWay => 20,
             Remark::NoLength => 28,
             Remark::Gap => 29,
-            Remark::Bad(fault) => fault.note(),
+            Remark::Bad(Fault::Length) => 30,
+            Remark::Bad(Fault::Sum { .. }) => 31,
         }
     }
 }

@@ -5,13 +5,10 @@
 #![tactic(auto)]
 
 ghost use Rattle.std.specs.Prelude.{◌≡◌};
-ghost use Rattle.reports.specs.Reports.{added, less_one, no_report, no_reports, oldest, one_more, reports_in_range, showing, without_oldest};
+ghost use Rattle.reports.specs.Reports.{added, no_report, no_reports, oldest, reports_in_range, showing, without_oldest};
 
 // "Up to 8 reports wait".
 const MOST_WAITING: usize = 8;
-
-// The count of those dropped stops here.
-const MOST_DROPPED: u32 = 4294967295;
 
 // A report: its function, and the ten header bytes that it shows.
 #[derive(Clone, Copy)]
@@ -45,47 +42,32 @@ fn no_report() -> Report
 pub fn none() -> Reports
     ensures { result ≡ no_reports }
 {
-    let empty = no_report();
     Reports {
         shown: [0; 10],
         count: 0,
-        waiting: [empty, empty, empty, empty, empty, empty, empty, empty],
+        waiting: [no_report(); MOST_WAITING],
         dropped: 0,
     }
 }
 
-// One more was dropped.
-fn one_more(dropped: u32) -> u32
-    ensures { result ≡ one_more dropped }
-{
-    if dropped < MOST_DROPPED {
-        return dropped + 1;
-    }
-    dropped
-}
-
-// A report waits behind those that wait already; a ninth is dropped and counted.
+// A report waits behind those that wait already; a ninth is dropped and counted, as far as the count goes.
+#[tactic(auto, unfolding(crate::specs::Reports::added, crate::specs::Reports::one_more))]
 pub fn added(reports: Reports, report: Report) -> Reports
     ensures { result ≡ Rattle.reports.specs.Reports.added reports report }
 {
-    let shown = reports.shown;
-    let mut waiting = reports.waiting;
-    let count = reports.count;
-    if count < MOST_WAITING {
-        waiting[count] = report;
-        return Reports {
-            shown,
-            count: count + 1,
+    if reports.count < MOST_WAITING {
+        let mut waiting = reports.waiting;
+        waiting[reports.count] = report;
+        Reports {
+            count: reports.count + 1,
             waiting,
-            dropped: reports.dropped,
-        };
-    }
-    let dropped = one_more(reports.dropped);
-    Reports {
-        shown,
-        count,
-        waiting,
-        dropped,
+            ..reports
+        }
+    } else {
+        Reports {
+            dropped: reports.dropped.saturating_add(1),
+            ..reports
+        }
     }
 }
 
@@ -93,30 +75,21 @@ pub fn added(reports: Reports, report: Report) -> Reports
 pub fn oldest(reports: Reports) -> Report
     ensures { result ≡ Rattle.reports.specs.Reports.oldest reports }
 {
-    let waiting = reports.waiting;
-    waiting[0]
+    reports.waiting[0]
 }
 
-fn less_one(count: usize) -> usize
-    ensures { result ≡ less_one count }
-{
-    if count == 0 {
-        return 0;
-    }
-    count - 1
-}
-
-// The oldest waits no more.
+// The oldest waits no more, and the others move up.
+#[tactic(auto, unfolding(crate::specs::Reports::without_oldest, crate::specs::Reports::less_one))]
 pub fn without_oldest(reports: Reports) -> Reports
     ensures { result ≡ without_oldest reports }
 {
-    let shown = reports.shown;
-    let w = reports.waiting;
+    let mut waiting = reports.waiting;
+    waiting.copy_within(1.., 0);
+    waiting[MOST_WAITING - 1] = no_report();
     Reports {
-        shown,
-        count: less_one(reports.count),
-        waiting: [w[1], w[2], w[3], w[4], w[5], w[6], w[7], no_report()],
-        dropped: reports.dropped,
+        count: reports.count.saturating_sub(1),
+        waiting,
+        ..reports
     }
 }
 
@@ -125,12 +98,9 @@ pub fn without_oldest(reports: Reports) -> Reports
 pub fn showing(reports: Reports, header: [u8; 10]) -> Reports
     ensures { result ≡ Rattle.reports.specs.Reports.showing reports header }
 {
-    let waiting = reports.waiting;
     Reports {
         shown: header,
-        count: reports.count,
-        waiting,
-        dropped: reports.dropped,
+        ..reports
     }
 }
 

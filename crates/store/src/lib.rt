@@ -19,37 +19,30 @@ const AREA: usize = MESSAGE_LIMIT;
 const ROOM: usize = 36864;
 
 // Whether a message has a place: the one being sent always has.
+#[tactic(auto, unfolding(room::specs::Room::has_place))]
 fn has_place(message: Message) -> bool
     ensures { result ≡ has_place message }
 {
     match message {
-        Message::Reply(p) => p < PLACES,
-        Message::Incoming(i) => i < PLACES,
+        Message::Reply(place) | Message::Incoming(place) => place < PLACES,
         Message::Send => true,
     }
 }
 
 // Whether `n` bytes from `offset` on are within an area. The sum of the two is never made: it may be too large.
+#[tactic(auto, unfolding(room::specs::Room::in_area))]
 fn in_area(offset: usize, n: usize) -> bool
     ensures { result ≡ in_area offset n }
 {
-    if AREA < offset {
-        return false;
-    }
-    n <= AREA - offset
+    offset <= AREA && n <= AREA - offset
 }
 
 // Whether the bytes of a message from `offset` on, `n` of them, lie in the room.
+#[tactic(auto, unfolding(room::specs::Room::lies, room::specs::Room::whole_room))]
 fn lies(room: &[u8], message: Message, offset: usize, n: usize) -> bool
     ensures { result ≡ Rattle.room.specs.Room.lies room.now message offset n }
 {
-    if room.len() != ROOM {
-        return false;
-    }
-    if has_place(message) {
-        return in_area(offset, n);
-    }
-    false
+    room.len() == ROOM && has_place(message) && in_area(offset, n)
 }
 
 // Where the area of a message starts: "4 reply areas, 4 incoming areas, 1 send area, .. in that order".
@@ -57,15 +50,17 @@ fn start(message: Message) -> usize
     requires { place_of message < places }
     ensures { result ≡ start_of message }
 {
-    match message {
-        Message::Reply(p) => p * AREA,
-        Message::Incoming(i) => (PLACES + i) * AREA,
-        Message::Send => (PLACES + PLACES) * AREA,
-    }
+    let place = match message {
+        Message::Reply(place) => place,
+        Message::Incoming(place) => PLACES + place,
+        Message::Send => PLACES + PLACES,
+    };
+    place * AREA
 }
 
 // Keeps `data` in the room as the bytes of a message from `offset` on. Where these do not lie in the room, it changes
 // nothing.
+#[tactic(auto, unfolding(room::specs::Room::kept_in, room::specs::Room::filled), using(room::proofs::Areas::tested, room::proofs::Areas::tested_end, wire::proofs::Lent::copied))]
 pub fn keep(room: &mut [u8], message: Message, offset: usize, data: &[u8])
     ensures { room.new ≡ kept_in room.old message offset «data».now }
 {
@@ -77,13 +72,14 @@ pub fn keep(room: &mut [u8], message: Message, offset: usize, data: &[u8])
 
 // The bytes of a message from `offset` on, `length` of them, as a part of the room. Where these do not lie in the
 // room, it is the empty part.
+#[tactic(auto, unfolding(room::specs::Room::bytes_in, room::specs::Room::bytes_at, wire::specs::Bytes::part), using(room::proofs::Areas::tested, room::proofs::Areas::tested_end))]
 pub fn bytes_of(room: &[u8], message: Message, offset: usize, length: usize) -> &[u8]
     ensures { result.now ≡ bytes_in room.now message offset length }
 {
     if lies(room, message, offset, length) {
         let from = start(message) + offset;
-        let end = from + length;
-        return &room[from..end];
+        &room[from..from + length]
+    } else {
+        &room[..0]
     }
-    &room[0..0]
 }

@@ -4,9 +4,3 @@ use Rattle.codec.proofs.block_data.Goals as goal
 
 pub data_part-requires : goal.data_part-requires
 data_part-requires c = ((reads_as _ _ _).0 (sym c.read_block.ensures ∙ c.in-Block.is)).0.good
-
-pub returns-in-Block : goal.returns-in-Block
-returns-in-Block c = simp (sym c.read_block.ensures ∙ c.in-Block.is) c.data_part.ensures
-
-pub returns-in-Refused : goal.returns-in-Refused
-returns-in-Refused c = simp (sym c.read_block.ensures ∙ c.in-Refused.is)

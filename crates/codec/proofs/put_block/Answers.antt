@@ -11,8 +11,7 @@ returns c =
     let h = c.args.header in
     let d = c.args.«data».now in
     let ten : length h ≡ 10 = search rules in
-    let sum : c.wrapping_add_u16-sum.result ≡ checksum_of (h ++ d) =
-    c.wrapping_add_u16-sum.ensures.value ∙ rw (c.checksum.ensures, c.checksum-2.ensures) (sum_join h d) in
-    let size : (10 + length d) % 256 ≡ length (h ++ d) = omega (arith, length-append h d, c.requires) in
-    built h d c.args.out.now _ _ _ _ _ _ ten (omega (arith, c.requires)) (λ k. size k ∷ []) (c.halves-last.ensures ∙ ap halves_of sum)
+    let sum : (c.checksum.result + c.checksum-2.result) % 65536 ≡ checksum_of (h ++ d) = rw (c.checksum.ensures, c.checksum-2.ensures) (sum_join h d) in
+    let size : 10 + length d ≡ length (h ++ d) = omega (arith, length-append h d, c.requires) in
+    built h d c.args.out.now _ _ _ _ _ _ ten (omega (arith, c.requires)) (λ k. size k ∷ []) (c.halves.ensures ∙ ap halves_of sum)
     c.put.ensures c.put-2.ensures c.put-3.ensures c.put-4.ensures
