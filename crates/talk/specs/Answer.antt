@@ -1,5 +1,5 @@
 -- What a line does, and what is printed for it (01, "Bench program and proved table").
-use Rattle.std.specs.Prelude.{ℕ, Bool, true, false, cond, List, eqb, take, replicate, None, Option}
+use Rattle.std.specs.Prelude.{ℕ, Bool, true, false, cond, List, eqb, take, replicate, None, Option, Some}
 use Rattle.place.specs.Verdict.{standing_number}
 use Rattle.exchange.specs.declared.OwnReading.{OwnReading}
 use Rattle.link.specs.Answer.{outcome_number}
@@ -19,7 +19,6 @@ use Rattle.talk.specs.Run.{Running, running, nothing_ran, joins, bytes_run, tick
 use Rattle.talk.specs.declared.Ran.{Ran}
 use Rattle.talk.specs.declared.Bench.{Bench}
 use Rattle.talk.specs.declared.Shown.{Shown}
-use Rattle.exchange.specs.Reading.{reads_own}
 
 -- what a line came to, and every byte of the room and of the memory that output is put in
 pub record Done : Type 0 where
@@ -57,7 +56,7 @@ unread_shown b = shown_as b printed.Unreadable 0
 -- "`V` place prints V, place, verdict, or `9 - 20` for a free place or one above 3."
 abbrev pub verdict_by : Option OwnReading → ℕ → Printed
 verdict_by None p = printed.Answer 9 20
-verdict_by (reads_own primary standing reply) p = printed.Verdict p (standing_number standing)
+verdict_by (Some r) p = printed.Verdict p (standing_number r.standing)
 
 -- a start that is not refused begins anew, a refused one leaves the unit that there was
 unfoldable pub start_shown : Bench → Setup → Shown

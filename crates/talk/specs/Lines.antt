@@ -1,7 +1,7 @@
 -- What each line does, and what is printed for it (01, "Bench program and proved table"): over every line, unit, room and output memory.
 -- Which line asks for what is `LineIs` (script/specs/Lines.antt), the unit's calls are `called` (link/specs/History.antt), and what a user
 -- reads of a place is `own_of`, of the reports that were dropped `dropped_of` (link/specs/Reading.antt). Proved in `proofs/Lines.antt`.
-use Rattle.std.specs.Prelude.{ℕ, suc, ◌+◌, ◌≤◌, ◌<◌, ◌≡◌, true, false, List, [], ◌∷◌, ◌++◌, length, drop, None, Option}
+use Rattle.std.specs.Prelude.{ℕ, suc, ◌+◌, ◌≤◌, ◌<◌, ◌≡◌, true, false, List, [], ◌∷◌, ◌++◌, length, drop, None, Option, Some}
 use Rattle.wire.specs.Lent.{on_front}
 use Rattle.place.specs.declared.Standing.{Standing}
 use Rattle.place.specs.declared.Standing.TheVariants as standing
@@ -22,7 +22,6 @@ use Rattle.script.specs.Lines.{Order, starts, opens, replies, frees_own, frees_i
 use Rattle.script.specs.Printed.{number_text, data_text}
 use Rattle.talk.specs.Answer.{Done, bench_of, line_done, text_done}
 use Rattle.talk.specs.declared.Bench.{Bench}
-use Rattle.exchange.specs.Reading.{reads_own}
 
 -- ---- the calls of a line
 
@@ -123,7 +122,7 @@ pub record VerdictText (s : Standing) (p : ℕ) (text : List ℕ) : Type 0 where
 -- "`V` place prints V, place, verdict, or `9 - 20` for a free place or one above 3": by what is read of the place
 abbrev pub ReadingText : Option OwnReading → ℕ → List ℕ → Type 0
 ReadingText None p text = text ≡ 0x39 ∷ 0x20 ∷ 0x2D ∷ 0x20 ∷ 0x32 ∷ 0x30 ∷ 0x0A ∷ []
-ReadingText (reads_own h s r) p text = VerdictText s p text
+ReadingText (Some r) p text = VerdictText r.standing p text
 
 pub record VerdictDone (u : Link) (p : ℕ) (room out : List ℕ) (d : Done) : Type 0 where
   pub text : ReadingText (own_of u p) p (text_done d)
