@@ -57,10 +57,5 @@ pub fn open_alike(incoming: [Incoming; 4], header: Header) -> Found
 pub fn tick_incoming(incoming: [Incoming; 4], terms: Terms) -> [Incoming; 4]
     ensures { result ≡ ticked_incoming terms incoming }
 {
-    [
-        incoming::tick(incoming[0], terms),
-        incoming::tick(incoming[1], terms),
-        incoming::tick(incoming[2], terms),
-        incoming::tick(incoming[3], terms),
-    ]
+    incoming.map(|place| incoming::tick(place, terms))
 }
