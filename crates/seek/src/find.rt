@@ -8,14 +8,10 @@ use table::Found;
 pub(crate) fn first(marks: [bool; 4]) -> Found
     ensures { result ≡ first_of marks }
 {
-    let mut i: usize = 0;
-    while i < 4 {
-        if marks[i] {
-            return Found::At(i);
-        }
-        i = i + 1;
+    match marks.iter().position(|mark| *mark) {
+        Some(place) => Found::At(place),
+        None => Found::Nowhere,
     }
-    Found::Nowhere
 }
 
 // The places with one put anew; outside of them nothing is put.
