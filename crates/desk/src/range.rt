@@ -4,17 +4,13 @@ ghost use Rattle.exchange.specs.Range.{exchange_in_range, incomings_in_range, ow
 
 use exchange::{Exchange, Sending};
 use place::{Incoming, Own};
-use seek::own_at;
 use wire::MESSAGE_LIMIT;
 
 #[tactic(auto, unfolding(exchange::specs::Range::owns_in_range))]
 fn owns_in_range(own: [Own; 4]) -> bool
     ensures { result ≡ owns_in_range own }
 {
-    life::own_in_range(own_at(own, 0))
-        && life::own_in_range(own_at(own, 1))
-        && life::own_in_range(own_at(own, 2))
-        && life::own_in_range(own_at(own, 3))
+    own.iter().all(|place| life::own_in_range(*place))
 }
 
 #[tactic(auto, unfolding(exchange::specs::Range::incomings_in_range))]
