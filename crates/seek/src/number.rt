@@ -44,11 +44,16 @@ pub fn next_number(own: [Own; 4], last: u16, latest: u16) -> u16
         if n == latest {
             continue 'search;
         }
-        for place in own {
+        let mut i: usize = 0;
+        loop {
+            if i == 4 {
+                break 'search n;
+            }
+            let place = own[i];
             if held_number(place) == n {
                 continue 'search;
             }
+            i = i + 1;
         }
-        break 'search n;
     }
 }

@@ -47,7 +47,7 @@ search-smaller c =
     let four : length c.args.own ≡ 4 = search rules in
     let four_n = four_nums c.args.last c.args.latest c.args.own four in
     (on_from c.args.last c.args.latest c.args.own four _ _ c.search.invariant c.following-n.ensures
-    (hit _ _ (map held_number c.args.own) c.loop-place.place-index (omega arith) c.loop-place.invariant (its_number c.args.last c.args.latest c.args.own four c.loop-place.place-index _ _ c.held_number.ensures refl ∙ c.if-held_number-n.true))).1
+    (hit _ _ (map held_number c.args.own) c.loop-i.i (omega arith) c.loop-i.invariant.1 (its_number c.args.last c.args.latest c.args.own four c.loop-i.i _ _ c.held_number.ensures refl ∙ c.if-held_number-n.true))).1
 
 pub search-preserved : goal.search-preserved
 unfolding held_number
@@ -55,20 +55,22 @@ search-preserved c =
     let four : length c.args.own ≡ 4 = search rules in
     let four_n = four_nums c.args.last c.args.latest c.args.own four in
     (on_from c.args.last c.args.latest c.args.own four _ _ c.search.invariant c.following-n.ensures
-    (hit _ _ (map held_number c.args.own) c.loop-place.place-index (omega arith) c.loop-place.invariant (its_number c.args.last c.args.latest c.args.own four c.loop-place.place-index _ _ c.held_number.ensures refl ∙ c.if-held_number-n.true))).0
+    (hit _ _ (map held_number c.args.own) c.loop-i.i (omega arith) c.loop-i.invariant.1 (its_number c.args.last c.args.latest c.args.own four c.loop-i.i _ _ c.held_number.ensures refl ∙ c.if-held_number-n.true))).0
 
-pub loop-place-preserved : goal.loop-place-preserved
+pub loop-i-preserved : goal.loop-i-preserved
 unfolding held_number
-loop-place-preserved c =
+loop-i-preserved c =
     let four : length c.args.own ≡ 4 = search rules in
-    let four_n = four_nums c.args.last c.args.latest c.args.own four in
-    miss _ (map held_number c.args.own) c.loop-place.place-index (omega arith) c.loop-place.invariant
-    (λ q. c.if-held_number-n.false (sym (its_number c.args.last c.args.latest c.args.own four c.loop-place.place-index _ _ c.held_number.ensures refl) ∙ q))
+    let four_n = four_nums c.args.last c.args.latest c.args.own four in (
+      search rules,
+      miss _ (map held_number c.args.own) c.loop-i.i (omega arith) c.loop-i.invariant.1
+          (λ q. c.if-held_number-n.false (sym (its_number c.args.last c.args.latest c.args.own four c.loop-i.i _ _ c.held_number.ensures refl) ∙ q)),
+    )
 
 pub returns : goal.returns
 unfolding next_number
 returns c =
     let four : length c.args.own ≡ 4 = search rules in
     let four_n = four_nums c.args.last c.args.latest c.args.own four in
-    let none = left _ _ (map held_number c.args.own) c.loop-place.place-index (omega arith) c.loop-place.invariant c.if-n-latest.false in
+    let none = left _ _ (map held_number c.args.own) c.loop-i.i (omega arith) c.loop-i.invariant.1 c.if-n-latest.false in
     found (c.args.latest ∷ map held_number c.args.own) c.search.n c.following-n.result c.following-n.ensures none ∙ c.search.invariant.1
