@@ -1,2 +1,3 @@
--- `Determined`: what each public contract determines.
+-- `All` has the law of `all` over four places; `Determined`: what each public contract determines.
+pub mod All
 pub mod Determined

@@ -8,15 +8,7 @@ use place::Fate;
 pub fn note_number(note: Note) -> u8
     ensures { result ≡ note_number note }
 {
-    match note {
-        Note::Kept => 21,
-        Note::Misrouted => 22,
-        Note::Duplicate => 23,
-        Note::Stray => 24,
-        Note::NoPlace => 25,
-        Note::TooLong => 26,
-        Note::Empty => 27,
-    }
+    note as u8
 }
 
 // Rules 4, 5 and 7.
@@ -26,7 +18,6 @@ pub fn note_of(fate: Fate) -> Note
     match fate {
         Fate::Empty => Note::Empty,
         Fate::TooLong => Note::TooLong,
-        Fate::Last(_) => Note::Kept,
-        Fate::More(_) => Note::Kept,
+        Fate::Last(_) | Fate::More(_) => Note::Kept,
     }
 }

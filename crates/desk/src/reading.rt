@@ -9,6 +9,7 @@ use life::{incoming, own};
 use place::{End, Incoming, IncomingStage};
 
 // A reply is owed to a complete message with W = 1.
+#[tactic(auto, unfolding(exchange::specs::Reading::wanted))]
 fn wanted(primary: Header) -> ReplyStage
     ensures { result ≡ wanted primary }
 {
@@ -22,16 +23,15 @@ fn wanted(primary: Header) -> ReplyStage
 fn reply_stage(place: Incoming) -> ReplyStage
     ensures { result ≡ reply_stage place }
 {
-    let stage = place.stage;
-    match stage {
-        IncomingStage::Free => ReplyStage::NotOwed,
-        IncomingStage::Open(_) => ReplyStage::NotOwed,
-        IncomingStage::Complete { length: _ } => wanted(incoming::primary(place)),
-        IncomingStage::Replying { length: _ } => ReplyStage::OnItsWay,
-        IncomingStage::Replied { length: _, end } => match end {
-            End::Sent => ReplyStage::Sent,
-            End::Failed => ReplyStage::Failed,
-        },
+    match place.stage {
+        IncomingStage::Free | IncomingStage::Open(_) => ReplyStage::NotOwed,
+        IncomingStage::Complete { .. } => wanted(incoming::primary(place)),
+        IncomingStage::Replying { .. } => ReplyStage::OnItsWay,
+        IncomingStage::Replied { end: End::Sent, .. } => ReplyStage::Sent,
+        IncomingStage::Replied {
+            end: End::Failed,
+            ..
+        } => ReplyStage::Failed,
     }
 }
 

@@ -8,111 +8,77 @@ use place::{Incoming, Own};
 use seek::{incoming_at, incoming_put, number_of, own_at, own_put};
 
 // Whether a place got its verdict now.
+#[tactic(auto, unfolding(exchange::specs::Exchange::got_verdict))]
 pub fn got_verdict(before: Own, after: Own) -> bool
     ensures { result ≡ got_verdict before after }
 {
-    if own::has_verdict(before) {
-        return false;
-    }
-    own::has_verdict(after)
+    !own::has_verdict(before) && own::has_verdict(after)
 }
 
 // The number of the latest own transaction to get a verdict, once this place went from `before` to `after`.
+#[tactic(auto, unfolding(exchange::specs::Exchange::latest_after))]
 pub fn latest_after(latest: u16, before: Own, after: Own) -> u16
     ensures { result ≡ latest_after latest before after }
 {
     if got_verdict(before, after) {
-        return number_of(after);
+        number_of(after)
+    } else {
+        latest
     }
-    latest
 }
 
 // No place is in use. `last` is the last transaction number given before the start, 0 if none is kept.
 pub fn fresh(last: u16) -> Exchange
     ensures { result ≡ fresh_exchange last }
 {
-    let free = own::fresh();
-    let none = incoming::fresh();
-    let own = [free; 4];
-    let incoming = [none; 4];
-    let saved = Saved {
-        any: false,
-        header: [0; 10],
-    };
-    let numbers = Numbers { last, latest: 0 };
-    let sending = Sending::Nothing;
-    let reports = reports::none();
     Exchange {
-        own,
-        incoming,
-        saved,
-        numbers,
-        sending,
-        reports,
+        own: [own::fresh(); 4],
+        incoming: [incoming::fresh(); 4],
+        saved: Saved {
+            any: false,
+            header: [0; 10],
+        },
+        numbers: Numbers { last, latest: 0 },
+        sending: Sending::Nothing,
+        reports: reports::none(),
     }
 }
 
 // An own place is put anew.
+#[tactic(auto, unfolding(exchange::specs::Exchange::put_own))]
 pub fn put_own(exchange: Exchange, place: usize, after: Own) -> Exchange
     ensures { result ≡ put_own exchange place after }
 {
-    let before = exchange.own;
-    let own = own_put(before, place, after);
-    let incoming = exchange.incoming;
-    let saved = exchange.saved;
-    let sending = exchange.sending;
-    let reports = exchange.reports;
-    let numbers = Numbers {
-        last: exchange.numbers.last,
-        latest: latest_after(exchange.numbers.latest, own_at(before, place), after),
-    };
+    let before = own_place(exchange, place);
     Exchange {
-        own,
-        incoming,
-        saved,
-        numbers,
-        sending,
-        reports,
+        own: own_put(exchange.own, place, after),
+        numbers: Numbers {
+            latest: latest_after(exchange.numbers.latest, before, after),
+            ..exchange.numbers
+        },
+        ..exchange
     }
 }
 
 // An incoming place is put anew.
+#[tactic(auto, unfolding(exchange::specs::Exchange::put_incoming))]
 pub fn put_incoming(exchange: Exchange, place: usize, after: Incoming) -> Exchange
     ensures { result ≡ put_incoming exchange place after }
 {
-    let own = exchange.own;
-    let before = exchange.incoming;
-    let incoming = incoming_put(before, place, after);
-    let saved = exchange.saved;
-    let sending = exchange.sending;
-    let numbers = exchange.numbers;
-    let reports = exchange.reports;
     Exchange {
-        own,
-        incoming,
-        saved,
-        numbers,
-        sending,
-        reports,
+        incoming: incoming_put(exchange.incoming, place, after),
+        ..exchange
     }
 }
 
 // Another message is being sent, or none.
+#[tactic(auto, unfolding(exchange::specs::Exchange::with_sending))]
 pub fn with_sending(exchange: Exchange, sending: Sending) -> Exchange
     ensures { result ≡ with_sending exchange sending }
 {
-    let own = exchange.own;
-    let incoming = exchange.incoming;
-    let saved = exchange.saved;
-    let numbers = exchange.numbers;
-    let reports = exchange.reports;
     Exchange {
-        own,
-        incoming,
-        saved,
-        numbers,
         sending,
-        reports,
+        ..exchange
     }
 }
 
@@ -120,72 +86,51 @@ pub fn with_sending(exchange: Exchange, sending: Sending) -> Exchange
 fn sent_from(sending: Sending, place: usize) -> bool
     ensures { result ≡ sent_from sending place }
 {
-    match sending {
-        Sending::Nothing => false,
-        Sending::Primary {
-            place: from,
-            length: _,
-        } => from == place,
-        Sending::Reply {
-            place: _,
-            function: _,
-            length: _,
-        } => false,
-        Sending::Report {
-            function: _,
-            number: _,
-        } => false,
-    }
+    matches!(sending, Sending::Primary { place: from, .. } if from == place)
 }
 
 // What is being sent once a block of the reply in this place has come: its primary no more, for it was received.
+#[tactic(auto, unfolding(exchange::specs::Exchange::sent_behind))]
 fn sent_behind(sending: Sending, place: usize) -> Sending
     ensures { result ≡ sent_behind sending place }
 {
     if sent_from(sending, place) {
-        return Sending::Nothing;
+        Sending::Nothing
+    } else {
+        sending
     }
-    sending
 }
 
 // An own place is put anew by a block of its reply.
+#[tactic(auto, unfolding(exchange::specs::Exchange::put_replied))]
 pub fn put_replied(exchange: Exchange, place: usize, after: Own) -> Exchange
     ensures { result ≡ put_replied exchange place after }
 {
-    let sending = exchange.sending;
-    with_sending(put_own(exchange, place, after), sent_behind(sending, place))
+    with_sending(
+        put_own(exchange, place, after),
+        sent_behind(exchange.sending, place),
+    )
 }
 
 // Rule 2: "Otherwise the header is saved, even if the block is thrown out below."
+#[tactic(auto, unfolding(exchange::specs::Exchange::saved_now))]
 pub fn with_saved(exchange: Exchange, header: [u8; 10]) -> Exchange
     ensures { result ≡ saved_now exchange header }
 {
-    let own = exchange.own;
-    let incoming = exchange.incoming;
-    let saved = Saved { any: true, header };
-    let numbers = exchange.numbers;
-    let sending = exchange.sending;
-    let reports = exchange.reports;
     Exchange {
-        own,
-        incoming,
-        saved,
-        numbers,
-        sending,
-        reports,
+        saved: Saved { any: true, header },
+        ..exchange
     }
 }
 
 pub fn own_place(exchange: Exchange, place: usize) -> Own
     ensures { result ≡ Rattle.exchange.specs.Exchange.own_place exchange place }
 {
-    let own = exchange.own;
-    own_at(own, place)
+    own_at(exchange.own, place)
 }
 
 pub fn incoming_place(exchange: Exchange, place: usize) -> Incoming
     ensures { result ≡ Rattle.exchange.specs.Exchange.incoming_place exchange place }
 {
-    let incoming = exchange.incoming;
-    incoming_at(incoming, place)
+    incoming_at(exchange.incoming, place)
 }

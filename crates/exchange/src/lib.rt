@@ -32,7 +32,7 @@ pub struct Numbers {
 
 // The one message that is being sent or held: whose it is, and how many data bytes it has. A report of stream 9 has no place: what is
 // being sent is told by its function and its number, and what it shows lies with those that wait (`Reports`).
-#[derive(Clone, Copy)]
+#[derive(Clone, Copy, PartialEq, Eq)]
 pub enum Sending {
     Nothing,
     Primary {
@@ -79,19 +79,19 @@ pub struct Judged {
 #[derive(Clone, Copy)]
 pub enum Note {
     // 21: kept.
-    Kept,
+    Kept = 21,
     // 22: R-bit or device ID not this link's incoming one.
-    Misrouted,
+    Misrouted = 22,
     // 23: the header is the saved one.
-    Duplicate,
+    Duplicate = 23,
     // 24: of no message that is open or awaited, and not the first block of a primary.
-    Stray,
+    Stray = 24,
     // 25: all four incoming places are in use.
-    NoPlace,
+    NoPlace = 25,
     // 26: total data above 4,096.
-    TooLong,
+    TooLong = 26,
     // 27: no data where there must be some.
-    Empty,
+    Empty = 27,
 }
 
 // "flags for places that got a verdict, completed or were dropped" (01, "Refusal numbers and notes"), one for each place.

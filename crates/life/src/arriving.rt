@@ -1,6 +1,6 @@
 // A message that is arriving (E4 7.2; 01, "Messages"): one machine for a reply to us and for a message of the far end.
 ghost use Rattle.std.specs.Prelude.{◌≡◌};
-ghost use Rattle.place.specs.Arriving.{arriving_after, arriving_from, arriving_tick, continues_arriving, kind_of};
+ghost use Rattle.place.specs.Arriving.{arriving_from, arriving_tick, continues_arriving, kind_of};
 
 use header::Header;
 use place::{Arriving, Kind, Waited};
@@ -23,69 +23,38 @@ pub(crate) fn from(header: Header, length: u16) -> Arriving
 {
     Arriving {
         timer: 0,
-        next: header.number as u32 + 1,
+        next: u32::from(header.number) + 1,
         kind: kind_of(header),
         length,
     }
 }
 
-// So many ticks since the last block kept.
-fn after(arriving: Arriving, timer: u32) -> Arriving
-    ensures { result ≡ arriving_after arriving timer }
-{
-    let kind = arriving.kind;
-    Arriving {
-        timer,
-        next: arriving.next,
-        kind,
-        length: arriving.length,
-    }
-}
-
 // 0.1 s have passed: "T4 beyond its limit breaks the message."
+#[tactic(auto, unfolding(place::specs::Arriving::arriving_tick))]
 pub(crate) fn tick(arriving: Arriving, terms: Terms) -> Waited
     ensures { result ≡ arriving_tick terms arriving }
 {
     match terms.t4.tick(arriving.timer) {
         Timer::RunsOut => Waited::Broken,
-        Timer::Runs(timer) => Waited::Still(after(arriving, timer)),
-    }
-}
-
-// Whether two bits are the same.
-fn same_bit(a: bool, b: bool) -> bool
-    ensures { result ≡ Rattle.place.specs.Arriving.same_bit a b }
-{
-    if a {
-        if b { true } else { false }
-    } else {
-        if b { false } else { true }
+        Timer::Runs(timer) => Waited::Still(Arriving { timer, ..arriving }),
     }
 }
 
 // Whether a block has W, stream and function of a message.
+#[tactic(auto, unfolding(place::specs::Arriving::same_kind))]
 fn same_kind(kind: Kind, header: Header) -> bool
     ensures { result ≡ Rattle.place.specs.Arriving.same_kind kind header }
 {
-    if kind.stream == header.stream {
-        if kind.function == header.function {
-            return same_bit(kind.w, header.w);
-        }
-    }
-    false
+    kind.stream == header.stream && kind.function == header.function && kind.w == header.w
 }
 
-// Whether a block is the next one of a message with this device ID and these system bytes.
-pub(crate) fn continues(arriving: Arriving, device: u16, system: u32, header: Header) -> bool
-    ensures { result ≡ continues_arriving device system arriving header }
+// Whether a block is the next one of a message that has device ID and system bytes of this primary.
+#[tactic(auto, unfolding(place::specs::Arriving::continues_arriving))]
+pub(crate) fn continues(arriving: Arriving, primary: Header, header: Header) -> bool
+    ensures { result ≡ continues_arriving primary.device primary.system arriving header }
 {
-    if device == header.device {
-        if system == header.system {
-            if header.number as u32 == arriving.next {
-                let kind = arriving.kind;
-                return same_kind(kind, header);
-            }
-        }
-    }
-    false
+    primary.device == header.device
+        && primary.system == header.system
+        && u32::from(header.number) == arriving.next
+        && same_kind(arriving.kind, header)
 }

@@ -1,6 +1,6 @@
 // A place of a message of the far end (E4 7.4): from its first block until it is released or dropped.
 ghost use Rattle.std.specs.Prelude.{◌≡◌};
-ghost use Rattle.place.specs.Incoming.{begun_by, continues_here, fresh_incoming, incoming_answered, incoming_begun, incoming_failed, incoming_is_complete, incoming_is_free, incoming_is_open, incoming_is_replied, incoming_length, incoming_offered, incoming_released, incoming_sent, incoming_takes, incoming_tick, kept_by, open_tick, primary_of, stage_at};
+ghost use Rattle.place.specs.Incoming.{begun_by, ended_at, fresh_incoming, incoming_answered, incoming_begun, incoming_failed, incoming_is_complete, incoming_is_free, incoming_is_open, incoming_is_replied, incoming_length, incoming_offered, incoming_released, incoming_sent, incoming_takes, incoming_tick, kept_by, open_tick, primary_of, stage_at};
 
 use crate::arriving;
 use crate::fate::fate_of;
@@ -21,8 +21,10 @@ pub fn fresh() -> Incoming
         number: 0,
         system: 0,
     };
-    let stage = IncomingStage::Free;
-    Incoming { header, stage }
+    Incoming {
+        header,
+        stage: IncomingStage::Free,
+    }
 }
 
 // What the header of its first block says.
@@ -36,77 +38,47 @@ pub fn primary(incoming: Incoming) -> Header
 fn at(incoming: Incoming, stage: IncomingStage) -> Incoming
     ensures { result ≡ stage_at incoming stage }
 {
-    let header = incoming.header;
-    Incoming { header, stage }
+    Incoming { stage, ..incoming }
 }
 
 // How many data bytes are kept.
 pub fn length(incoming: Incoming) -> u16
     ensures { result ≡ incoming_length incoming }
 {
-    let stage = incoming.stage;
-    match stage {
+    match incoming.stage {
         IncomingStage::Free => 0,
         IncomingStage::Open(arriving) => arriving.length,
-        IncomingStage::Complete { length } => length,
-        IncomingStage::Replying { length } => length,
-        IncomingStage::Replied { length, end: _ } => length,
+        IncomingStage::Complete { length }
+        | IncomingStage::Replying { length }
+        | IncomingStage::Replied { length, .. } => length,
     }
 }
 
 pub fn is_free(incoming: Incoming) -> bool
     ensures { result ≡ incoming_is_free incoming }
 {
-    let stage = incoming.stage;
-    match stage {
-        IncomingStage::Free => true,
-        IncomingStage::Open(_) => false,
-        IncomingStage::Complete { length: _ } => false,
-        IncomingStage::Replying { length: _ } => false,
-        IncomingStage::Replied { length: _, end: _ } => false,
-    }
+    matches!(incoming.stage, IncomingStage::Free)
 }
 
 // "open (not yet complete)"
 pub fn is_open(incoming: Incoming) -> bool
     ensures { result ≡ incoming_is_open incoming }
 {
-    let stage = incoming.stage;
-    match stage {
-        IncomingStage::Free => false,
-        IncomingStage::Open(_) => true,
-        IncomingStage::Complete { length: _ } => false,
-        IncomingStage::Replying { length: _ } => false,
-        IncomingStage::Replied { length: _, end: _ } => false,
-    }
+    matches!(incoming.stage, IncomingStage::Open(_))
 }
 
 // Complete, and no reply to it was accepted.
 pub fn is_complete(incoming: Incoming) -> bool
     ensures { result ≡ incoming_is_complete incoming }
 {
-    let stage = incoming.stage;
-    match stage {
-        IncomingStage::Free => false,
-        IncomingStage::Open(_) => false,
-        IncomingStage::Complete { length: _ } => true,
-        IncomingStage::Replying { length: _ } => false,
-        IncomingStage::Replied { length: _, end: _ } => false,
-    }
+    matches!(incoming.stage, IncomingStage::Complete { .. })
 }
 
 // Our reply to it has ended.
 pub fn is_replied(incoming: Incoming) -> bool
     ensures { result ≡ incoming_is_replied incoming }
 {
-    let stage = incoming.stage;
-    match stage {
-        IncomingStage::Free => false,
-        IncomingStage::Open(_) => false,
-        IncomingStage::Complete { length: _ } => false,
-        IncomingStage::Replying { length: _ } => false,
-        IncomingStage::Replied { length: _, end: _ } => true,
-    }
+    matches!(incoming.stage, IncomingStage::Replied { .. })
 }
 
 // The first block of a primary has met its fate; one that is not kept takes no place.
@@ -114,8 +86,7 @@ fn begun_by(incoming: Incoming, header: Header, fate: Fate) -> Incoming
     ensures { result ≡ begun_by incoming header fate }
 {
     match fate {
-        Fate::Empty => incoming,
-        Fate::TooLong => incoming,
+        Fate::Empty | Fate::TooLong => incoming,
         Fate::Last(length) => Incoming {
             header,
             stage: IncomingStage::Complete { length },
@@ -127,6 +98,7 @@ fn begun_by(incoming: Incoming, header: Header, fate: Fate) -> Incoming
     }
 }
 
+#[tactic(auto, unfolding(place::specs::Incoming::begins))]
 fn begin(incoming: Incoming, header: Header, size: usize) -> Incoming
     ensures { result ≡ Rattle.place.specs.Incoming.begins incoming header size }
 {
@@ -137,16 +109,13 @@ fn begin(incoming: Incoming, header: Header, size: usize) -> Incoming
 pub fn begun(incoming: Incoming, header: Header, size: usize) -> Incoming
     ensures { result ≡ incoming_begun incoming header size }
 {
-    let stage = incoming.stage;
-    match stage {
-        IncomingStage::Free => begin(incoming, header, size),
-        IncomingStage::Open(_) => begin(incoming, header, size),
-        IncomingStage::Complete { length: _ } => incoming,
-        IncomingStage::Replying { length: _ } => incoming,
-        IncomingStage::Replied { length: _, end: _ } => incoming,
+    match incoming.stage {
+        IncomingStage::Free | IncomingStage::Open(_) => begin(incoming, header, size),
+        _ => incoming,
     }
 }
 
+#[tactic(auto, unfolding(place::specs::Incoming::open_tick))]
 fn open_tick(incoming: Incoming, terms: Terms, arriving: Arriving) -> Incoming
     ensures { result ≡ open_tick terms incoming arriving }
 {
@@ -160,35 +129,22 @@ fn open_tick(incoming: Incoming, terms: Terms, arriving: Arriving) -> Incoming
 pub fn tick(incoming: Incoming, terms: Terms) -> Incoming
     ensures { result ≡ incoming_tick terms incoming }
 {
-    let stage = incoming.stage;
-    match stage {
-        IncomingStage::Free => incoming,
+    match incoming.stage {
         IncomingStage::Open(arriving) => open_tick(incoming, terms, arriving),
-        IncomingStage::Complete { length: _ } => incoming, // it waits for its user
-        IncomingStage::Replying { length: _ } => incoming,
-        IncomingStage::Replied { length: _, end: _ } => incoming,
+        _ => incoming, // a complete message waits for its user
     }
 }
 
-// Whether a block continues the open message, which has device ID and system bytes of its first block.
-fn continues_here(incoming: Incoming, arriving: Arriving, header: Header) -> bool
-    ensures { result ≡ continues_here incoming arriving header }
-{
-    let primary = primary(incoming);
-    arriving::continues(arriving, primary.device, primary.system, header)
-}
-
 // Rule 3: whether a block is for this place.
+#[tactic(auto, unfolding(place::specs::Incoming::continues_here))]
 pub fn takes(incoming: Incoming, header: Header) -> bool
     ensures { result ≡ incoming_takes incoming header }
 {
-    let stage = incoming.stage;
-    match stage {
-        IncomingStage::Free => false,
-        IncomingStage::Open(arriving) => continues_here(incoming, arriving, header),
-        IncomingStage::Complete { length: _ } => false,
-        IncomingStage::Replying { length: _ } => false,
-        IncomingStage::Replied { length: _, end: _ } => false,
+    match incoming.stage {
+        IncomingStage::Open(arriving) => {
+            arriving::continues(arriving, primary(incoming), header)
+        }
+        _ => false,
     }
 }
 
@@ -197,8 +153,7 @@ fn kept_by(incoming: Incoming, header: Header, fate: Fate) -> Incoming
     ensures { result ≡ kept_by incoming header fate }
 {
     match fate {
-        Fate::Empty => at(incoming, IncomingStage::Free),
-        Fate::TooLong => at(incoming, IncomingStage::Free),
+        Fate::Empty | Fate::TooLong => at(incoming, IncomingStage::Free),
         Fate::Last(length) => at(incoming, IncomingStage::Complete { length }),
         Fate::More(length) => at(
             incoming,
@@ -208,26 +163,36 @@ fn kept_by(incoming: Incoming, header: Header, fate: Fate) -> Incoming
 }
 
 // A block with `size` data bytes has come. A place that it is not for stays as it is.
+#[tactic(auto, unfolding(place::specs::Incoming::incoming_offered, place::specs::Incoming::goes_on))]
 pub fn offered(incoming: Incoming, header: Header, size: usize) -> Incoming
     ensures { result ≡ incoming_offered incoming header size }
 {
     if takes(incoming, header) {
-        return kept_by(incoming, header, fate_of(header, length(incoming), size));
+        kept_by(incoming, header, fate_of(header, length(incoming), size))
+    } else {
+        incoming
     }
-    incoming
 }
 
 // A reply to a complete message was accepted.
 pub fn answered(incoming: Incoming) -> Incoming
     ensures { result ≡ incoming_answered incoming }
 {
-    let stage = incoming.stage;
-    match stage {
-        IncomingStage::Free => incoming,
-        IncomingStage::Open(_) => incoming,
+    match incoming.stage {
         IncomingStage::Complete { length } => at(incoming, IncomingStage::Replying { length }),
-        IncomingStage::Replying { length: _ } => incoming,
-        IncomingStage::Replied { length: _, end: _ } => incoming, // one reply is all
+        _ => incoming, // one reply is all
+    }
+}
+
+// "A reply of ours ends sent or failed in its incoming place."
+fn ended(incoming: Incoming, end: End) -> Incoming
+    ensures { result ≡ ended_at end incoming.stage incoming }
+{
+    match incoming.stage {
+        IncomingStage::Replying { length } => {
+            at(incoming, IncomingStage::Replied { length, end })
+        }
+        _ => incoming,
     }
 }
 
@@ -235,52 +200,24 @@ pub fn answered(incoming: Incoming) -> Incoming
 pub fn sent(incoming: Incoming) -> Incoming
     ensures { result ≡ incoming_sent incoming }
 {
-    let stage = incoming.stage;
-    match stage {
-        IncomingStage::Free => incoming,
-        IncomingStage::Open(_) => incoming,
-        IncomingStage::Complete { length: _ } => incoming,
-        IncomingStage::Replying { length } => at(
-            incoming,
-            IncomingStage::Replied {
-                length,
-                end: End::Sent,
-            },
-        ),
-        IncomingStage::Replied { length: _, end: _ } => incoming,
-    }
+    ended(incoming, End::Sent)
 }
 
 // A block of the reply failed.
 pub fn failed(incoming: Incoming) -> Incoming
     ensures { result ≡ incoming_failed incoming }
 {
-    let stage = incoming.stage;
-    match stage {
-        IncomingStage::Free => incoming,
-        IncomingStage::Open(_) => incoming,
-        IncomingStage::Complete { length: _ } => incoming,
-        IncomingStage::Replying { length } => at(
-            incoming,
-            IncomingStage::Replied {
-                length,
-                end: End::Failed,
-            },
-        ),
-        IncomingStage::Replied { length: _, end: _ } => incoming,
-    }
+    ended(incoming, End::Failed)
 }
 
 // A complete message whose reply is not on its way is freed.
 pub fn released(incoming: Incoming) -> Incoming
     ensures { result ≡ incoming_released incoming }
 {
-    let stage = incoming.stage;
-    match stage {
-        IncomingStage::Free => incoming,
-        IncomingStage::Open(_) => incoming,
-        IncomingStage::Complete { length: _ } => at(incoming, IncomingStage::Free),
-        IncomingStage::Replying { length: _ } => incoming,
-        IncomingStage::Replied { length: _, end: _ } => at(incoming, IncomingStage::Free),
+    match incoming.stage {
+        IncomingStage::Complete { .. } | IncomingStage::Replied { .. } => {
+            at(incoming, IncomingStage::Free)
+        }
+        _ => incoming,
     }
 }

@@ -66,19 +66,19 @@ pub struct Reply {
 #[derive(Clone, Copy)]
 pub enum Verdict {
     // 1: "W = 0, all acknowledged".
-    Sent,
+    Sent = 1,
     // 2: "complete reply, same stream, function one higher".
-    Answered,
+    Answered = 2,
     // 3: "same stream, function 0".
-    Declined,
+    Declined = 3,
     // 4: "other reply".
-    Other,
+    Other = 4,
     // 5: "broken".
-    Broken,
+    Broken = 5,
     // 6: "no reply in T3".
-    NoReply,
+    NoReply = 6,
     // 7: "send failed".
-    SendFailed,
+    SendFailed = 7,
 }
 
 // How a place stands to its user.

@@ -1,5 +1,5 @@
-// Which place of four is meant.
-ghost use Rattle.std.specs.Prelude.{◌≡◌};
+// Which place of four is meant, and putting one anew.
+ghost use Rattle.std.specs.Prelude.{◌≡◌, set};
 ghost use Rattle.table.specs.Find.{first_of};
 
 use table::Found;
@@ -8,12 +8,18 @@ use table::Found;
 pub(crate) fn first(marks: [bool; 4]) -> Found
     ensures { result ≡ first_of marks }
 {
-    let mut i: usize = 0;
-    while i < 4 {
-        if marks[i] {
-            return Found::At(i);
-        }
-        i = i + 1;
+    match marks.iter().position(|mark| *mark) {
+        Some(place) => Found::At(place),
+        None => Found::Nowhere,
     }
-    Found::Nowhere
+}
+
+// The places with one put anew; outside of them nothing is put.
+pub(crate) fn put_at<P: Copy>(mut places: [P; 4], place: usize, put: P) -> [P; 4]
+    ensures { result ≡ set places place put }
+{
+    if place < 4 {
+        places[place] = put;
+    }
+    places
 }

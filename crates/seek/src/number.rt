@@ -7,6 +7,7 @@ use life::own;
 use place::Own;
 
 // The number in a place: the lower half of its system bytes.
+#[tactic(auto, unfolding(table::specs::Number::number_of))]
 pub fn number_of(place: Own) -> u16
     ensures { result ≡ number_of place }
 {
@@ -14,20 +15,23 @@ pub fn number_of(place: Own) -> u16
 }
 
 // The number in a place in use; 0, which is no number, of a free one.
+#[tactic(auto, unfolding(table::specs::Number::held_number))]
 fn held_number(place: Own) -> u16
     ensures { result ≡ held_number place }
 {
     if own::is_free(place) {
-        return 0;
+        0
+    } else {
+        number_of(place)
     }
-    number_of(place)
 }
 
 // "65,535 being followed by 1": zero is passed over.
+#[tactic(auto, unfolding(table::specs::Number::following))]
 fn following(number: u16) -> u16
     ensures { result ≡ following number }
 {
-    let next = std::num::wrapping_add_u16(number, 1);
+    let next = number.wrapping_add(1);
     if next == 0 { 1 } else { next }
 }
 

@@ -1,20 +1,17 @@
--- `range::owns_in_range` meets its contract.
-use mathlib.Core.Path.{sym, ◌∙◌}
+-- `range::owns_in_range` meets its contract: all four, by their place.
+use Rattle.std.proofs.Common.{◌≡◌, length, ◌∙◌, rules}
+use Rattle.std.proofs.lemmas.Iterator.{YieldsList-from_slice}
+use Rattle.std.proofs.lemmas.Iterator.Search.{all_from_yields_List}
+use Rattle.place.specs.Own.{fresh_own}
+use Rattle.place.specs.Range.{own_in_range}
 use Rattle.exchange.specs.Range.{owns_in_range}
+use Rattle.table.proofs.Fours.{unmapped}
+use Rattle.desk.proofs.All.{all_four}
 use Rattle.desk.proofs.range.owns_in_range.Goals as goal
 
-pub returns-then-own_in_range-3 : goal.returns-then-own_in_range-3
+pub returns : goal.returns
 unfolding owns_in_range
-returns-then-own_in_range-3 c = simp (sym (rw c.own_at.ensures at c.own_in_range.ensures) ∙ c.if-own_in_range.true, sym (rw c.own_at-then-own_in_range.ensures at c.own_in_range-then-own_in_range.ensures) ∙ c.if-own_in_range-2.true, sym (rw c.own_at-then-own_in_range-2.ensures at c.own_in_range-then-own_in_range-2.ensures) ∙ c.if-own_in_range-3.true) (rw c.own_at-then-own_in_range-3.ensures at c.own_in_range-then-own_in_range-3.ensures)
-
-pub returns-else-own_in_range-3 : goal.returns-else-own_in_range-3
-unfolding owns_in_range
-returns-else-own_in_range-3 c = simp (sym (rw c.own_at.ensures at c.own_in_range.ensures) ∙ c.if-own_in_range.true, sym (rw c.own_at-then-own_in_range.ensures at c.own_in_range-then-own_in_range.ensures) ∙ c.if-own_in_range-2.true, sym (rw c.own_at-then-own_in_range-2.ensures at c.own_in_range-then-own_in_range-2.ensures) ∙ c.if-own_in_range-3.false)
-
-pub returns-else-own_in_range-2 : goal.returns-else-own_in_range-2
-unfolding owns_in_range
-returns-else-own_in_range-2 c = simp (sym (rw c.own_at.ensures at c.own_in_range.ensures) ∙ c.if-own_in_range.true, sym (rw c.own_at-then-own_in_range.ensures at c.own_in_range-then-own_in_range.ensures) ∙ c.if-own_in_range-2.false)
-
-pub returns-else-own_in_range : goal.returns-else-own_in_range
-unfolding owns_in_range
-returns-else-own_in_range c = simp (sym (rw c.own_at.ensures at c.own_in_range.ensures) ∙ c.if-own_in_range.false)
+returns c =
+    let l = c.args.own in
+    let four : length l ≡ 4 = search (rules, unmapped) in
+    all_from_yields_List own_in_range _ _ _ c.all.ensures.ran (YieldsList-from_slice l (search rules)) (λ x b q t. search rules) ∙ all_four own_in_range fresh_own l four

@@ -1,27 +1,20 @@
--- `find::first` meets its contract: what is ahead of place i gives the same answer.
-use Rattle.std.proofs.Common.{◌≡◌, length, refl, arith, rules}
+-- `find::first` meets its contract: `position` walks as the definition does.
+use Rattle.std.proofs.Common.{Bool, sym, ap, ◌∙◌, rules}
+use Rattle.std.proofs.lemmas.Iterator.{YieldsList-from_slice}
+use Rattle.std.proofs.lemmas.Iterator.Search.{position_from_yields_List}
+use Rattle.std.proofs.lemmas.Iterator.Adapters.{position_from-zero}
 use Rattle.table.specs.Find.{first_of}
-use Rattle.table.proofs.Firsts.{hit, miss, none}
+use Rattle.seek.proofs.Positions.{as_found, same}
 use Rattle.seek.proofs.find.first.Goals as goal
 
-pub loop-i-init : goal.loop-i-init
+pub returns-in-Some : goal.returns-in-Some
 unfolding first_of
-loop-i-init c = (omega arith, refl)
+returns-in-Some c =
+    let e = position_from_yields_List (λ (b : Bool). b) _ _ _ c.position.ensures.ran (YieldsList-from_slice c.args.marks (search rules)) (λ x b q t. search rules) ∙ position_from-zero (λ (b : Bool). b) c.args.marks in
+    ap as_found (sym c.in-Some.is ∙ e) ∙ same 0 c.args.marks
 
-pub returns-then-marks-i : goal.returns-then-marks-i
+pub returns-in-None : goal.returns-in-None
 unfolding first_of
-returns-then-marks-i c =
-    let four : length c.args.marks ≡ 4 = search rules in
-    hit c.args.marks c.loop-i.i c.loop-i.invariant.1 (omega arith) c.if-marks-i.true
-
-pub loop-i-preserved : goal.loop-i-preserved
-unfolding first_of
-loop-i-preserved c =
-    let four : length c.args.marks ≡ 4 = search rules in
-    (omega arith, miss c.args.marks c.loop-i.i c.loop-i.invariant.1 (omega arith) c.if-marks-i.false)
-
-pub returns : goal.returns
-unfolding first_of
-returns c =
-    let four : length c.args.marks ≡ 4 = search rules in
-    none c.args.marks c.loop-i.i c.loop-i.invariant.1 (omega arith)
+returns-in-None c =
+    let e = position_from_yields_List (λ (b : Bool). b) _ _ _ c.position.ensures.ran (YieldsList-from_slice c.args.marks (search rules)) (λ x b q t. search rules) ∙ position_from-zero (λ (b : Bool). b) c.args.marks in
+    ap as_found (sym c.in-None.is ∙ e) ∙ same 0 c.args.marks

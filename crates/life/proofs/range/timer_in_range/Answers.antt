@@ -1,8 +1,0 @@
--- `range::timer_in_range` meets its contract.
-use Rattle.place.specs.Range.{timer_in_range}
-use borrow.Author.Rules.{rules}
-use Rattle.life.proofs.range.timer_in_range.Goals as goal
-
-pub returns : goal.returns
-unfolding timer_in_range
-returns c = search rules

@@ -1,8 +1,0 @@
--- `own::tick_own` meets its contract.
-use Rattle.std.proofs.Common.{◌≡◌, length, rules}
-use Rattle.table.proofs.Fours.{unmapped, map_four}
-use Rattle.place.specs.Own.{own_tick}
-use Rattle.seek.proofs.own.tick_own.Goals as goal
-
-pub returns : goal.returns
-returns c = let l = c.args.own in let four : length l ≡ 4 = search (rules, unmapped) in rw (c.tick.ensures, c.tick-2.ensures, c.tick-3.ensures, c.tick-4.ensures) (map_four (own_tick c.args.terms) _ l four)
