@@ -7,7 +7,10 @@ use mathlib.Core.Logic.{inl, inr, ⊎_elim}
 use native.Mathlib.Omega.{arith}
 use lib.Dec.{eqb, ltb}
 use lib.ListN.{length, take, drop, get_or, length-take}
-use borrow.Author.Tests.{eqb-true, ltb-false}
+use borrow.Author.Tests.{eqb-true, ltb-false, le-ltb}
+use Rattle.std.specs.Prelude.{Option, Some, None}
+use Rattle.std.proofs.lemmas.Option.{none-some}
+use Rattle.wire.proofs.Choice.{chosen}
 use Rattle.text.specs.Find.{index_of, index_after}
 use Rattle.wire.specs.Bytes.{Bytes as AreBytes}
 use Rattle.text.specs.Field.{field_of, behind_of, letter_of}
@@ -15,8 +18,10 @@ use Rattle.text.specs.Number.{number_of}
 use Rattle.text.specs.Hex.{is_data, data_of}
 use Rattle.text.specs.Theorems.{NoSpace, Says, HexDigit, HexText, HexSays, TextSays, decimal, upper, lower, no_more, one_more}
 use Rattle.text.proofs.FieldRules.{fields_exactly, letter_exactly}
+use Rattle.text.proofs.Digits.{some_same}
 use Rattle.text.proofs.NumberRules.{number_exactly}
 use Rattle.text.proofs.HexRules.{data_exactly, bytes_said}
+use Rattle.script.specs.Command.{read_then, within, number_in}
 use Rattle.script.specs.Lines.{NumberIn, DataIn, no_data, some_data}
 
 -- ---- fields
@@ -62,8 +67,8 @@ pub parted : (field rest : List ℕ) → NoSpace field → Parted field rest
 parted field rest free = let f = (fields_exactly field rest free).first in record { first = f.0; behind = f.1 }
 
 -- a field that is a letter
-pub letter_is : (text : List ℕ) (b : ℕ) → (b ≡ 0 → ⊥) → eqb (letter_of text) b ≡ true → text ≡ b ∷ []
-letter_is text b some e = (letter_exactly text b some).0 (eqb-true (letter_of text) b e)
+pub letter_is : (text : List ℕ) (x b : ℕ) → letter_of text ≡ Some x → eqb x b ≡ true → text ≡ b ∷ []
+letter_is text x b letter e = (letter_exactly text b).0 (letter ∙ ap Some (eqb-true x b e))
 
 -- it has one byte in it
 pub letter_some : {letter : ℕ} (text : List ℕ) → field_of text ≡ letter ∷ [] → 1 ≤ length text
@@ -83,17 +88,27 @@ one_byte (x ∷ y ∷ rest) b e n = absurd (omega arith)
 
 -- ---- numbers and bytes
 
-pub number_said : {most n : ℕ} {text : List ℕ} → most ≤ 100000 → NumberIn most text n → number_of text ≡ n
-number_said {most} {n} {text} h w = ((number_exactly text).said n (let l = w.within in omega arith)).1 w.says
+pub number_said : {most n : ℕ} {text : List ℕ} → most ≤ 100000 → NumberIn most text n → number_in most text ≡ Some n
+number_said {most} {n} {text} h w =
+    let l = w.within in
+    let read : number_of text ≡ Some n = ((number_exactly text).said n).1 (omega arith, w.says) in
+    rw (read, le-ltb most n l)
 
 -- a number is at least one digit
 pub number_some : {most n : ℕ} {text : List ℕ} → NumberIn most text n → 1 ≤ length text
 number_some w = w.says.some
 
-pub number_read : (most : ℕ) (text : List ℕ) → most ≤ 100000 → ltb most (number_of text) ≡ false → NumberIn most text (number_of text)
-number_read most text h e =
-    let within = ltb-false most (number_of text) e in
-    record { says = ((number_exactly text).said (number_of text) (omega arith)).0 refl; within = within }
+pub number_read : {most n : ℕ} (text : List ℕ) → number_in most text ≡ Some n → NumberIn most text n
+number_read {most} {n} text e = by (number_of text) refl e
+  where
+    by : (o : Option ℕ) → number_of text ≡ o → read_then o (within most) ≡ Some n → NumberIn most text n
+    by None is = λ e. absurd (none-some _ e)
+    by (Some m) is =
+        chosen (λ (o : Option ℕ). o ≡ Some n → NumberIn most text n) (ltb most m) _ _ (λ many e. absurd (none-some _ e))
+        (λ few e.
+        let same : m ≡ n = some_same e in
+        let l = ltb-false most m few in
+        record { says = (((number_exactly text).said n).0 (is ∙ ap Some same)).1; within = omega arith })
 
 -- a digit that says a value is a digit, and one says its value
 said_digit : {x a : ℕ} → HexSays x a → HexDigit x

@@ -15,4 +15,4 @@ number_says =
     (λ n text h s. subst (Says (with_ones text n)) (omega arith) (says_behind (ones_of n) s (omega arith, omega arith)))
 
 pub number_reads : NumberReads
-number_reads n = record { says = number_says n; reads = λ h. ((number_exactly (number_text n)).said n h).1 (number_says n) }
+number_reads n = record { says = number_says n; reads = λ h. ((number_exactly (number_text n)).said n).1 (h, number_says n) }

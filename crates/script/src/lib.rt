@@ -7,11 +7,9 @@
 use exchange::Primary;
 use link::Setup;
 
-// What a line asks for.
+// What a line asks for. A line that can't be read asks for nothing: it is read as `None`.
 #[derive(Clone, Copy)]
 pub enum Command {
-    // "A line it can't read".
-    Unreadable,
     // "First line: role (H host, E equipment), T1, T2, T3, T4, RTY, DEVID, duplicate check, last number."
     Start(Setup),
     // "`O` source W stream function data". The data is the first `length` bytes of those lent.

@@ -1,46 +1,46 @@
 -- Bytes are read exactly if a text is hex digits, or `-`. Assumes nothing.
 use Prim.Native.Nat.{ℕ, zero, suc, ◌+◌, ◌-◌, ◌*◌, ◌%◌, ◌≤◌, ◌<◌}
 use mathlib.Core.Path.{◌≡◌, refl, ap, ◌∙◌}
-use mathlib.Core.Bool.{true, false, false≢true}
+use mathlib.Core.Bool.{true, false≢true}
 use mathlib.Core.List.{List, [], ◌∷◌}
 use mathlib.Core.Logic.{◌↔◌, ◌⊎◌, inl, inr, ⊎_elim}
 use native.Mathlib.Omega.{arith}
 use lib.Dec.{eqb, ltb, leb}
 use lib.ListN.{length, get_or}
 use borrow.Author.Tests.{le-ltb, le-leb, lt-leb, ne_eqb, ltb-false, leb-true, eqb-true, eqb-false}
-use Rattle.wire.proofs.Choice.{chosen}
+use Rattle.std.specs.Prelude.{Option, Some, is_some}
+use Rattle.wire.proofs.Choice.{chosen, both}
 use Rattle.text.specs.Hex.{digit_of, are_digits, byte_of, is_data, data_of}
 use Rattle.text.specs.Theorems.{HexDigit, HexText, DataExactly, HexTable, HexSays, TextSays, decimal, upper, lower, no_more, one_more, BytesSaid}
 
 -- a digit's value, up to 9, from A on and from a on
-pub digit_low : (b : ℕ) → 0x30 ≤ b → b ≤ 0x39 → digit_of b ≡ b - 0x30
+pub digit_low : (b : ℕ) → 0x30 ≤ b → b ≤ 0x39 → digit_of b ≡ Some (b - 0x30)
 unfolding digit_of
 digit_low b h l = rw (le-ltb b 0x30 h, le-leb b 0x39 l)
 
-pub digit_upper : (b : ℕ) → 0x41 ≤ b → b ≤ 0x46 → digit_of b ≡ b - 0x41 + 10
+pub digit_upper : (b : ℕ) → 0x41 ≤ b → b ≤ 0x46 → digit_of b ≡ Some (b - 0x41 + 10)
 unfolding digit_of
 digit_upper b h l = rw (le-ltb b 0x30 (omega arith), lt-leb b 0x39 (omega arith), le-ltb b 0x41 h, le-leb b 0x46 l)
 
-pub digit_lower : (b : ℕ) → 0x61 ≤ b → b ≤ 0x66 → digit_of b ≡ b - 0x61 + 10
+pub digit_lower : (b : ℕ) → 0x61 ≤ b → b ≤ 0x66 → digit_of b ≡ Some (b - 0x61 + 10)
 unfolding digit_of
 digit_lower b h l =
     rw (le-ltb b 0x30 (omega arith), lt-leb b 0x39 (omega arith), le-ltb b 0x41 (omega arith), lt-leb b 0x46 (omega arith), le-ltb b 0x61 h, le-leb b 0x66 l)
 
--- a byte with a value up to 15 is a digit
-digit_is : (b : ℕ) → digit_of b ≤ 15 → HexDigit b
+-- a byte with a value is a digit
+digit_is : (b : ℕ) → is_some (digit_of b) ≡ true → HexDigit b
 unfolding digit_of
 digit_is b =
-    chosen (λ k. k ≤ 15 → HexDigit b) (ltb b 0x30) _ _ (λ e h. absurd (omega arith))
-    (λ from_0. chosen (λ k. k ≤ 15 → HexDigit b) (leb b 0x39) _ _ (λ to_9 h. inl (ltb-false b 0x30 from_0, leb-true b 0x39 to_9))
-    (λ over_9. chosen (λ k. k ≤ 15 → HexDigit b) (ltb b 0x41) _ _ (λ e h. absurd (omega arith))
-    (λ from_a. chosen (λ k. k ≤ 15 → HexDigit b) (leb b 0x46) _ _ (λ to_f h. inr (inl (ltb-false b 0x41 from_a, leb-true b 0x46 to_f)))
-    (λ over_f. chosen (λ k. k ≤ 15 → HexDigit b) (ltb b 0x61) _ _ (λ e h. absurd (omega arith))
-    (λ from_a. chosen (λ k. k ≤ 15 → HexDigit b) (leb b 0x66) _ _ (λ to_f h. inr (inr (ltb-false b 0x61 from_a, leb-true b 0x66 to_f))) (λ e h. absurd (omega arith)))))))
+    chosen (λ (o : Option ℕ). is_some o ≡ true → HexDigit b) (ltb b 0x30) _ _ (λ e t. absurd (false≢true t))
+    (λ from_0. chosen (λ (o : Option ℕ). is_some o ≡ true → HexDigit b) (leb b 0x39) _ _ (λ to_9 t. inl (ltb-false b 0x30 from_0, leb-true b 0x39 to_9))
+    (λ over_9. chosen (λ (o : Option ℕ). is_some o ≡ true → HexDigit b) (ltb b 0x41) _ _ (λ e t. absurd (false≢true t))
+    (λ from_a. chosen (λ (o : Option ℕ). is_some o ≡ true → HexDigit b) (leb b 0x46) _ _ (λ to_f t. inr (inl (ltb-false b 0x41 from_a, leb-true b 0x46 to_f)))
+    (λ over_f. chosen (λ (o : Option ℕ). is_some o ≡ true → HexDigit b) (ltb b 0x61) _ _ (λ e t. absurd (false≢true t))
+    (λ from_a. chosen (λ (o : Option ℕ). is_some o ≡ true → HexDigit b) (leb b 0x66) _ _ (λ to_f t. inr (inr (ltb-false b 0x61 from_a, leb-true b 0x66 to_f))) (λ e t. absurd (false≢true t)))))))
 
-is_digit_lem : (b : ℕ) → HexDigit b → digit_of b ≤ 15
+is_digit_lem : (b : ℕ) → HexDigit b → is_some (digit_of b) ≡ true
 is_digit_lem b =
-    ⊎_elim (λ d. omega (arith, digit_low b d.0 d.1, d.1))
-    (⊎_elim (λ d. omega (arith, digit_upper b d.0 d.1, d.1)) (λ d. omega (arith, digit_lower b d.0 d.1, d.1)))
+    ⊎_elim (λ d. ap is_some (digit_low b d.0 d.1)) (⊎_elim (λ d. ap is_some (digit_upper b d.0 d.1)) (λ d. ap is_some (digit_lower b d.0 d.1)))
 
 abbrev HexDigits : List ℕ → Type 0
 HexDigits text = (i : ℕ) → i < length text → HexDigit (get_or text i 0)
@@ -54,9 +54,8 @@ unfolding are_digits
 digits_are [] = (λ e i h. absurd (omega arith), λ ds. refl)
 digits_are (b ∷ bs) =
     let rest = digits_are bs in (
-      chosen (λ t. t ≡ true → HexDigits (b ∷ bs)) (ltb 15 (digit_of b)) false (are_digits bs) (λ e t. absurd (false≢true t))
-          (λ e t. first_digit b bs (digit_is b (ltb-false 15 (digit_of b) e)) (rest.0 t)),
-      λ ds. rw (le-ltb 15 (digit_of b) (is_digit_lem b (ds 0 (omega arith)))) (rest.1 (λ i h. ds (suc i) (omega arith))),
+      λ e. let two = (both (is_some (digit_of b)) (are_digits bs)).0 e in first_digit b bs (digit_is b two.0) (rest.0 two.1),
+      λ ds. rw (is_digit_lem b (ds 0 (omega arith))) (rest.1 (λ i h. ds (suc i) (omega arith))),
     )
 
 -- a text of one byte
@@ -96,14 +95,14 @@ unfolding data_of byte_of digit_of
 hex_table = record { upper = refl; lower = refl }
 
 -- a digit that says a value has it
-value_of : (x a : ℕ) → HexSays x a → (digit_of x ≡ a) × (a < 16)
-value_of _ _ (decimal d h) = (digit_low (0x30 + d) (omega arith) (omega arith) ∙ omega arith, omega arith)
-value_of _ _ (upper d h) = (digit_upper (0x41 + d) (omega arith) (omega arith) ∙ omega arith, omega arith)
-value_of _ _ (lower d h) = (digit_lower (0x61 + d) (omega arith) (omega arith) ∙ omega arith, omega arith)
+value_of : (x a : ℕ) → HexSays x a → digit_of x ≡ Some a
+value_of _ _ (decimal d h) = digit_low (0x30 + d) (omega arith) (omega arith) ∙ ap Some (omega arith)
+value_of _ _ (upper d h) = digit_upper (0x41 + d) (omega arith) (omega arith) ∙ ap Some (omega arith)
+value_of _ _ (lower d h) = digit_lower (0x61 + d) (omega arith) (omega arith) ∙ ap Some (omega arith)
 
 byte_of_lem : (x y a b : ℕ) → HexSays x a → HexSays y b → byte_of x y ≡ a * 16 + b
 unfolding byte_of
-byte_of_lem x y a b p q = let v = value_of x a p in let w = value_of y b q in rw (v.0, w.0) (omega (arith, v.1, w.1))
+byte_of_lem x y a b p q = rw (value_of x a p, value_of y b q)
 
 bytes_of : (text bs : List ℕ) → TextSays text bs → data_of text ≡ bs
 unfolding data_of

@@ -5,36 +5,31 @@ use mathlib.Core.List.{List, [], ◌∷◌, ◌++◌}
 use mathlib.Core.Logic.{◌↔◌}
 use native.Mathlib.Nat.{mul-one, zero-mul, mul_assoc, pow-zero, pow-succ', mul_left_comm, mul_comm}
 use native.Mathlib.Omega.{arith}
-use lib.Dec.{leb}
 use lib.ListN.{length, length-append}
-use borrow.Author.Tests.{leb-true, leb-false}
-use Rattle.wire.proofs.Choice.{either}
+use Rattle.std.specs.Prelude.{Option, Some, None}
+use Rattle.std.proofs.lemmas.Option.{none-some}
 use Rattle.text.specs.Number.{number_of}
 use Rattle.text.specs.Theorems.{value_of, Says, NumberExactly}
-use Rattle.text.proofs.Digits.{Decimal, Decimals, worth, first_decimal, digits_most, digits_read, digits_said}
+use Rattle.text.proofs.Digits.{Decimal, Decimals, worth, first_decimal, digits_read, digits_said}
 
-number_said : (text : List ℕ) (n : ℕ) → n ≤ 100000 → (number_of text ≡ n) ↔ Says text n
+number_said : (text : List ℕ) (n : ℕ) → (number_of text ≡ Some n) ↔ ((n ≤ 100000) × Says text n)
 unfolding number_of
-number_said [] n h = (λ e. absurd (omega arith), λ s. absurd (let some = s.some in omega arith))
-number_said (b ∷ bs) n h =
+number_said [] n = (λ e. absurd (none-some _ e), λ s. absurd (let some = s.1.some in omega arith))
+number_said (b ∷ bs) n =
     let all : worth 0 (b ∷ bs) ≡ value_of (b ∷ bs) = rw zero-mul (omega arith) in (
-      λ e. let read = digits_read (b ∷ bs) 0 n h e in record { some = omega arith; digits = read.0; value = sym all ∙ read.1 },
-      λ s. let is = s.value in digits_said (b ∷ bs) 0 s.digits (omega arith) ∙ all ∙ is,
+      λ e. let read = digits_read (b ∷ bs) 0 n (omega arith) e in (read.most, record { some = omega arith; digits = read.digits; value = sym all ∙ read.value }),
+      λ s. let is = s.1.value in let most = s.0 in digits_said (b ∷ bs) 0 s.1.digits (omega arith) ∙ ap Some (all ∙ is),
     )
-
-number_most : (text : List ℕ) → number_of text ≤ 100001
-unfolding number_of
-number_most [] = omega arith
-number_most (b ∷ bs) = digits_most (b ∷ bs) 0 (omega arith)
 
 pub number_exactly : NumberExactly
 number_exactly text = record {
   said = number_said text;
-  otherwise = λ no.
-      either (leb (number_of text) 100000) (λ t. number_of text ≡ 100001)
-      (λ e. let few = leb-true (number_of text) 100000 e in absurd (no (number_of text) few ((number_said text (number_of text) few).0 refl)))
-      (λ e. let many = leb-false (number_of text) 100000 e in let most = number_most text in omega arith);
+  otherwise = λ none. by none (number_of text) refl;
 }
+  where
+    by : ((n : ℕ) → n ≤ 100000 → Says text n → ⊥) → (o : Option ℕ) → number_of text ≡ o → number_of text ≡ None
+    by none None e = e
+    by none (Some n) e = let says = (number_said text n).0 e in absurd (none n says.0 says.1)
 
 -- ---- numbers that are put together digit by digit
 

@@ -1,20 +1,23 @@
 -- Texts as the loops go over them: a byte looked for, a number digit by digit, bytes two digits at a time. Assumes nothing.
 use Prim.Native.Nat.{ℕ, zero, suc, ◌+◌, ◌-◌, ◌*◌, ◌/◌, ◌≤◌, ◌<◌}
 use mathlib.Core.Path.{◌≡◌, refl, sym, ap, ◌∙◌}
-use mathlib.Core.Bool.{true, false, cond}
+use mathlib.Core.Bool.{true, ◌&&◌}
 use mathlib.Core.List.{List, [], ◌∷◌, ◌++◌}
 use native.Mathlib.Nat.{zero-add}
 use native.Mathlib.Omega.{arith}
-use lib.Dec.{ltb}
-use borrow.Author.Tests.{ltb-false}
+use lib.Dec.{ltb, leb}
+use borrow.Author.Tests.{ltb-false, leb-true}
 use lib.ListN.{length, drop, get_or, set, length-drop}
 use lib.Seq.{take-length, drop-length, drop-nil, drop-cons, drop-drop, paste, paste-suc}
+use Rattle.std.specs.Prelude.{Option, Some, None, is_some, unwrap_or, option_and_then}
+use Rattle.std.proofs.lemmas.Option.{none-some}
 use Rattle.text.specs.Find.{index_of}
 use Rattle.wire.specs.Lent.{on_front}
 use Rattle.wire.proofs.Choice.{chosen}
 use Rattle.text.specs.Field.{space, behind_of}
-use Rattle.text.specs.Number.{none, with_digit, with_digits, number_of}
+use Rattle.text.specs.Number.{with_digit, with_digits, number_of}
 use Rattle.text.specs.Hex.{digit_of, are_digits, byte_of, data_of}
+use Rattle.text.proofs.Digits.{some_same}
 
 -- nothing stands behind the end
 pub nothing_behind : (text : List ℕ) (n : ℕ) → length text ≤ n → drop n text ≡ []
@@ -30,22 +33,23 @@ behind_length text = omega (arith, length-drop (index_of space text + 1) text)
 
 -- ---- numbers
 
--- a number stays within what is above every limit
-pub digit_most : (n b : ℕ) → with_digit n b ≤ 100001
+-- a number is never above the highest that any may say
+pub digit_most : (n b m : ℕ) → with_digit n b ≡ Some m → m ≤ 100000
 unfolding with_digit
-digit_most n b =
-    chosen (λ k. k ≤ 100001) (ltb b 0x30) _ _ (λ e. omega arith)
-    (λ e. chosen (λ k. k ≤ 100001) (ltb 0x39 b) _ _ (λ e. omega arith)
-    (λ e. chosen (λ k. k ≤ 100001) (ltb 100000 (n * 10 + (b - 0x30))) _ _ (λ e. omega arith) (λ e. omega (arith, ltb-false (100000) (n * 10 + (b - 0x30)) e))))
+digit_most n b m =
+    chosen (λ (o : Option ℕ). o ≡ Some m → m ≤ 100000) (ltb b 0x30) _ _ (λ e o. absurd (none-some _ o))
+    (λ e. chosen (λ (o : Option ℕ). o ≡ Some m → m ≤ 100000) (ltb 0x39 b) _ _ (λ e o. absurd (none-some _ o))
+    (λ e. chosen (λ (o : Option ℕ). o ≡ Some m → m ≤ 100000) (ltb 100000 (n * 10 + (b - 0x30))) _ _ (λ e o. absurd (none-some _ o))
+    (λ e o. omega (arith, ltb-false 100000 (n * 10 + (b - 0x30)) e, some_same o))))
 
 pub digits_on : (text : List ℕ) (i n : ℕ) → i < length text
-    → with_digits n (drop i text) ≡ with_digits (with_digit n (get_or text i 0)) (drop (i + 1) text)
+    → with_digits n (drop i text) ≡ option_and_then (λ (m : ℕ). with_digits m (drop (i + 1) text)) (with_digit n (get_or text i 0))
 unfolding with_digits
 digits_on text i n h =
     let next : suc i ≡ i + 1 = omega arith in
-    ap (with_digits n) (drop-cons text i 0 h) ∙ ap (λ (k : ℕ). with_digits (with_digit n (get_or text i 0)) (drop k text)) next
+    ap (with_digits n) (drop-cons text i 0 h) ∙ ap (λ (k : ℕ). option_and_then (λ (m : ℕ). with_digits m (drop k text)) (with_digit n (get_or text i 0))) next
 
-pub digits_end : (text : List ℕ) (i n : ℕ) → length text ≤ i → with_digits n (drop i text) ≡ n
+pub digits_end : (text : List ℕ) (i n : ℕ) → length text ≤ i → with_digits n (drop i text) ≡ Some n
 unfolding with_digits
 digits_end text i n h = ap (with_digits n) (nothing_behind text i h)
 
@@ -54,7 +58,7 @@ unfolding number_of
 some_digits [] h = absurd (omega arith)
 some_digits (b ∷ bs) h = refl
 
-pub no_digits : (text : List ℕ) → length text ≡ 0 → none ≡ number_of text
+pub no_digits : (text : List ℕ) → length text ≡ 0 → None ≡ number_of text
 unfolding number_of
 no_digits [] e = refl
 no_digits (b ∷ bs) e = absurd (omega arith)
@@ -62,15 +66,26 @@ no_digits (b ∷ bs) e = absurd (omega arith)
 -- ---- bytes
 
 pub digits_left : (text : List ℕ) (i : ℕ) → i < length text
-    → are_digits (drop i text) ≡ cond (ltb 15 (digit_of (get_or text i 0))) false (are_digits (drop (i + 1) text))
+    → are_digits (drop i text) ≡ (is_some (digit_of (get_or text i 0)) && are_digits (drop (i + 1) text))
 unfolding are_digits
 digits_left text i h =
     let next : suc i ≡ i + 1 = omega arith in
-    ap are_digits (drop-cons text i 0 h) ∙ ap (λ (k : ℕ). cond (ltb 15 (digit_of (get_or text i 0))) false (are_digits (drop k text))) next
+    ap are_digits (drop-cons text i 0 h) ∙ ap (λ (k : ℕ). is_some (digit_of (get_or text i 0)) && are_digits (drop k text)) next
 
 pub digits_none : (text : List ℕ) (i : ℕ) → length text ≤ i → are_digits (drop i text) ≡ true
 unfolding are_digits
 digits_none text i h = ap are_digits (nothing_behind text i h)
+
+-- a digit is worth 15 at most
+pub value_most : (b : ℕ) → unwrap_or (digit_of b) 0 ≤ 15
+unfolding digit_of
+value_most b =
+    chosen (λ (o : Option ℕ). unwrap_or o 0 ≤ 15) (ltb b 0x30) _ _ (λ e. omega arith)
+    (λ e. chosen (λ (o : Option ℕ). unwrap_or o 0 ≤ 15) (leb b 0x39) _ _ (λ e. omega (arith, leb-true b 0x39 e))
+    (λ e. chosen (λ (o : Option ℕ). unwrap_or o 0 ≤ 15) (ltb b 0x41) _ _ (λ e. omega arith)
+    (λ e. chosen (λ (o : Option ℕ). unwrap_or o 0 ≤ 15) (leb b 0x46) _ _ (λ e. omega (arith, leb-true b 0x46 e))
+    (λ e. chosen (λ (o : Option ℕ). unwrap_or o 0 ≤ 15) (ltb b 0x61) _ _ (λ e. omega arith)
+    (λ e. chosen (λ (o : Option ℕ). unwrap_or o 0 ≤ 15) (leb b 0x66) _ _ (λ e. omega (arith, leb-true b 0x66 e)) (λ e. omega arith))))))
 
 pub data_length : (text : List ℕ) → length (data_of text) ≡ length text / 2
 unfolding data_of

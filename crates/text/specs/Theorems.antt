@@ -1,5 +1,5 @@
 -- What is proved of the definitions of this crate, over all inputs: they say what 01 says. Each proof is in `proofs/`.
-use Rattle.std.specs.Prelude.{ℕ, ◌+◌, ◌-◌, ◌*◌, ◌%◌, ◌^◌, ◌≤◌, ◌<◌, ◌≡◌, true, List, [], ◌∷◌, ◌++◌, ◌↔◌, ◌⊎◌, length, get_or}
+use Rattle.std.specs.Prelude.{ℕ, ◌+◌, ◌-◌, ◌*◌, ◌%◌, ◌^◌, ◌≤◌, ◌<◌, ◌≡◌, true, List, [], ◌∷◌, ◌++◌, ◌↔◌, ◌⊎◌, length, get_or, Option, Some, None}
 use Rattle.text.specs.Find.{index_of}
 use Rattle.text.specs.Field.{field_of, behind_of, letter_of}
 use Rattle.text.specs.Number.{number_of}
@@ -31,7 +31,7 @@ FieldsExactly = (text more : List ℕ) → NoSpace text → FirstField text more
 
 -- a field is a letter exactly if it is that one byte
 abbrev pub LetterExactly : Type 0
-LetterExactly = (text : List ℕ) (b : ℕ) → (b ≡ 0 → ⊥) → (letter_of text ≡ b) ↔ (text ≡ b ∷ [])
+LetterExactly = (text : List ℕ) (b : ℕ) → (letter_of text ≡ Some b) ↔ (text ≡ b ∷ [])
 
 -- ---- numbers
 
@@ -46,10 +46,10 @@ pub record Says (text : List ℕ) (n : ℕ) : Type 0 where
   pub digits : (i : ℕ) → i < length text → (0x30 ≤ get_or text i 0) × (get_or text i 0 ≤ 0x39)
   pub value : value_of text ≡ n
 
--- a number up to 100,000 exactly if the text says it; of any other text 100,001
-pub record NumberRead (text : List ℕ) (read : ℕ) : Type 0 where
-  pub said : (n : ℕ) → n ≤ 100000 → (read ≡ n) ↔ Says text n
-  pub otherwise : ((n : ℕ) → n ≤ 100000 → Says text n → ⊥) → read ≡ 100001
+-- a number exactly if the text says it and it is up to 100,000; of any other text none
+pub record NumberRead (text : List ℕ) (read : Option ℕ) : Type 0 where
+  pub said : (n : ℕ) → (read ≡ Some n) ↔ ((n ≤ 100000) × Says text n)
+  pub otherwise : ((n : ℕ) → n ≤ 100000 → Says text n → ⊥) → read ≡ None
 
 abbrev pub NumberExactly : Type 0
 NumberExactly = (text : List ℕ) → NumberRead text (number_of text)
