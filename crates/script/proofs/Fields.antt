@@ -9,7 +9,7 @@ use lib.Dec.{eqb, ltb}
 use lib.ListN.{length, take, drop, get_or, length-take}
 use borrow.Author.Tests.{eqb-true, ltb-false, le-ltb}
 use Rattle.std.specs.Prelude.{Option, Some, None}
-use Rattle.std.proofs.lemmas.Option.{none-some}
+use Rattle.std.proofs.lemmas.Option.{none-some, same_Some}
 use Rattle.wire.proofs.Choice.{chosen}
 use Rattle.text.specs.Find.{index_of, index_after}
 use Rattle.wire.specs.Bytes.{Bytes as AreBytes}
@@ -18,7 +18,6 @@ use Rattle.text.specs.Number.{number_of}
 use Rattle.text.specs.Hex.{is_data, data_of}
 use Rattle.text.specs.Theorems.{NoSpace, Says, HexDigit, HexText, HexSays, TextSays, decimal, upper, lower, no_more, one_more}
 use Rattle.text.proofs.FieldRules.{fields_exactly, letter_exactly}
-use Rattle.text.proofs.Digits.{some_same}
 use Rattle.text.proofs.NumberRules.{number_exactly}
 use Rattle.text.proofs.HexRules.{data_exactly, bytes_said}
 use Rattle.script.specs.Command.{read_then, within, number_in}
@@ -106,7 +105,7 @@ number_read {most} {n} text e = by (number_of text) refl e
     by (Some m) is =
         chosen (λ (o : Option ℕ). o ≡ Some n → NumberIn most text n) (ltb most m) _ _ (λ many e. absurd (none-some _ e))
         (λ few e.
-        let same : m ≡ n = some_same e in
+        let same : m ≡ n = same_Some _ _ e in
         let l = ltb-false most m few in
         record { says = (((number_exactly text).said n).0 (is ∙ ap Some same)).1; within = omega arith })
 

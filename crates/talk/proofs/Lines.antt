@@ -1,8 +1,8 @@
 -- What each line does (`specs/Lines.antt`): the calls that a line makes, one after the other, and lines that make none. Assumes nothing.
-use Rattle.std.specs.Prelude.{Option}
+use Rattle.std.specs.Prelude.{Option, Some, None}
 use Prim.Native.Nat.{ℕ, zero, suc, ◌+◌}
 use mathlib.Core.Path.{◌≡◌, refl, sym, ap, subst, ◌∙◌}
-use mathlib.Core.Bool.{Bool, true, false, false≢true}
+use mathlib.Core.Bool.{false, false≢true}
 use mathlib.Core.List.{List, [], ◌∷◌, ◌++◌, append_assoc, append-nil}
 use native.Mathlib.Omega.{arith}
 use lib.ListN.{length, take, drop, replicate, length-append, take-append-drop}
@@ -39,9 +39,8 @@ use Rattle.script.specs.declared.Printed.TheVariants as printed
 use Rattle.script.proofs.PrintedRules.{lines_exactly}
 use Rattle.script.proofs.Lines.{lines_read}
 use Rattle.script.proofs.Written.{orders_written}
-use Rattle.talk.specs.Answer.{Done, done, bench_of, unread_shown, verdict_by, start_shown, done_by, command_done, early_shown, told_done, line_done}
+use Rattle.talk.specs.Answer.{done, unread_shown, verdict_by, start_shown, done_by, command_done, early_shown, told_done, line_done}
 use Rattle.talk.specs.Lines.{Makes, one_open, one_reply, one_own, one_incoming, no_byte, a_byte, no_tick, a_tick, one_drained, made_on, outputs, last_number, last_note, last_link, last_room, CallsDone, OrderDone, Question, is_open, is_sent_lem, is_answered, is_declined, is_other_lem, is_broken, no_reply, send_failed, VerdictText, ReadingText, DroppedDone, StartDone, Does, DoesEarly, LinesDo}
-use Rattle.talk.specs.declared.Bench.{Bench}
 use Rattle.talk.specs.declared.Ran.{Ran}
 
 -- ---- calls, one after the other
@@ -219,7 +218,7 @@ reading_text u p =
 
 -- ---- a start
 
-start_done : (b : Bench) (s : Setup) (room out : List ℕ) → StartDone b s room out (done (start_shown b s) room out)
+start_done : (b : Option Link) (s : Setup) (room out : List ℕ) → StartDone b s room out (done (start_shown b s) room out)
 unfolding start_shown digits_of number_text
 start_done b s room out = record {
   accepted = λ fits.
@@ -233,14 +232,14 @@ start_done b s room out = record {
 
 -- ---- every line
 
-asked : (b : Bench) (room out : List ℕ) → Question b room out (done (unread_shown b) room out)
+asked : (b : Option Link) (room out : List ℕ) → Question b room out (done (unread_shown b) room out)
 asked b room out = record { text = refl; all = record { bench = refl; kept = refl; written = refl } }
 
 dropped_done : (u : Link) (lent room out : List ℕ) → DroppedDone u room out (command_done u command.Dropped lent room out)
 dropped_done u lent room out = record { text = (lines_exactly []).dropped (dropped_of u); all = record { bench = refl; kept = refl; written = refl } }
 
 does : (u : Link) (o : Order) (lent room out : List ℕ) → Within o → Does u o room out (command_done u (command_of o) (on_front (bytes_of o) lent) room out)
-does u (starts s) lent room out w = start_done (bench_of true u) s room out
+does u (starts s) lent room out w = start_done (Some u) s room out
 does u (opens q bs) lent room out w = rw (said_bytes bs lent) (one_done u (opens q bs) room out (request (primary q bs)) (one_open q bs))
 does u (replies p f bs) lent room out w = rw (said_bytes bs lent) (one_done u (replies p f bs) room out (request (reply p f bs)) (one_reply p f bs))
 does u (frees_own p) lent room out w = one_done u (frees_own p) room out (request (freeing_own p)) (one_own p)
@@ -252,23 +251,21 @@ does u drains lent room out w = one_done u drains room out drained one_drained
 does u (shows p) lent room out w = record { text = reading_text u p; all = record { bench = refl; kept = refl; written = refl } }
 does u counts lent room out w = dropped_done u lent room out
 
-does_early : (b : Bench) (o : Order) (room out : List ℕ) → DoesEarly b o room out (done (early_shown b (command_of o)) room out)
-does_early b (starts s) room out = start_done b s room out
-does_early b (opens q bs) room out = asked b room out
-does_early b (replies p f bs) room out = asked b room out
-does_early b (frees_own p) room out = asked b room out
-does_early b (frees_incoming p) room out = asked b room out
-does_early b (hears bs) room out = asked b room out
-does_early b (waits n) room out = asked b room out
-does_early b drains room out = asked b room out
-does_early b (shows p) room out = asked b room out
-does_early b counts room out = asked b room out
+does_early : (o : Order) (room out : List ℕ) → DoesEarly o room out (done (early_shown (command_of o)) room out)
+does_early (starts s) room out = start_done None s room out
+does_early (opens q bs) room out = asked None room out
+does_early (replies p f bs) room out = asked None room out
+does_early (frees_own p) room out = asked None room out
+does_early (frees_incoming p) room out = asked None room out
+does_early (hears bs) room out = asked None room out
+does_early (waits n) room out = asked None room out
+does_early drains room out = asked None room out
+does_early (shows p) room out = asked None room out
+does_early counts room out = asked None room out
 
 -- a line that can't be read, started or not
-pub unread_done : (b : Bench) (bytes room out : List ℕ) → Question b room out (told_done b (unread bytes) room out)
-unread_done b bytes room out =
-    chosen (λ (d : Done). Question b room out d) b.started _ _
-    (λ e. subst (λ (t : Bool). Question b room out (done (unread_shown (bench_of t b.link)) room out)) e (asked b room out)) (λ e. asked b room out)
+pub unread_done : (b : Option Link) (bytes room out : List ℕ) → Question b room out (told_done b (unread bytes) room out)
+unread_done b bytes room out = asked b room out
 
 pub lines_do : LinesDo
 unfolding line_done
@@ -277,6 +274,6 @@ lines_do b line room out =
     record {
       unsaid = λ no. rw (read.unsaid no) (unread_done b (replicate 512 0) room out);
       long = λ long. rw (read.long long) (unread_done b (replicate 512 0) room out);
-      early = λ e short o is. rw (read.said o is short, e) (does_early (bench_of false b.link) o room out);
-      started = λ e short o is. rw (read.said o is short, e) (does b.link o (replicate 512 0) room out (orders_written.within line o is));
+      early = λ e short o is. rw (read.said o is short, e) (does_early o room out);
+      started = λ u e short o is. rw (read.said o is short, e) (does u o (replicate 512 0) room out (orders_written.within line o is));
     }

@@ -398,5 +398,5 @@ line_lent u room out w e line _ _ is short (a_tick n ks m) =
 line_lent u room out w e line _ _ is short one_drained = one_lent u room out drained e
 
 pub output_holds : OutputHolds
-output_holds lines e line o ks is short m =
-    let d = (talked silence lines).now in let h = any_lines lines in line_lent d.shown.bench.link d.room d.out (h.unit e) h.long line o ks is short m
+output_holds lines u e line o ks is short m =
+    let d = (talked silence lines).now in let h = any_lines lines in line_lent u d.room d.out (h.unit u e) h.long line o ks is short m

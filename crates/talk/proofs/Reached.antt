@@ -1,8 +1,8 @@
 -- The unit of bench is one that was started, and of which the calls of lines were made since (`specs/Reached.antt`). Assumes nothing.
-use Rattle.std.specs.Prelude.{None, Option}
+use Rattle.std.specs.Prelude.{Some, None, Option}
+use Rattle.std.proofs.lemmas.Option.{none-some, same_Some}
 use Prim.Native.Nat.{ℕ, ◌≤◌}
 use mathlib.Core.Path.{◌≡◌, refl, sym, ap, subst, ◌∙◌}
-use mathlib.Core.Bool.{Bool, true, false, false≢true}
 use mathlib.Core.List.{List, [], ◌∷◌, ◌++◌}
 use mathlib.Core.Logic.{⊎_elim}
 use native.Mathlib.Omega.{arith}
@@ -27,11 +27,10 @@ use Rattle.link.proofs.verdicts.Own.{none_above}
 use Rattle.script.specs.Lines.{Order, starts, opens, replies, frees_own, frees_incoming, hears, waits, drains, shows, counts, OneOf}
 use Rattle.script.specs.Command.{Told}
 use Rattle.script.proofs.Lines.{known}
-use Rattle.talk.specs.Answer.{Done, bench_of, told_done, line_done, text_done}
+use Rattle.talk.specs.Answer.{Done, told_done, line_done, text_done}
 use Rattle.talk.specs.Lines.{made_on, outputs, last_link, last_room, OrderDone, AsItWas, ReadingText, StartDone, Does, DoesEarly}
 use Rattle.talk.specs.Listing.{Talk, talk, talked, silence}
 use Rattle.talk.specs.Reached.{UnitReached, UnitsReached, AboveThree}
-use Rattle.talk.specs.declared.Bench.{Bench}
 use Rattle.talk.proofs.Lines.{left_count, unread_done, lines_do}
 
 -- ---- calls
@@ -100,46 +99,46 @@ fresh_reached s room fits whole = record {
 -- ---- a line
 
 -- where there is a unit, it is one that was reached; room and memory for output are as long as they were in any case
-pub record Holds (b : Bench) (room out : List ℕ) : Type 0 where
+pub record Holds (b : Option Link) (room out : List ℕ) : Type 0 where
   pub whole : length room ≡ 36864
   pub long : length out ≡ 4096
-  pub unit : b.started ≡ true → UnitReached b.link room
+  pub unit : (u : Link) → b ≡ Some u → UnitReached u room
 
 abbrev HoldsIn : Done → Type 0
 HoldsIn d = Holds d.shown.bench d.room d.out
 
-as_it_was : (b : Bench) (room out : List ℕ) (d : Done) → Holds b room out → AsItWas b room out d → HoldsIn d
+as_it_was : (b : Option Link) (room out : List ℕ) (d : Done) → Holds b room out → AsItWas b room out d → HoldsIn d
 as_it_was b room out d h w =
-    subst (λ (c : Bench). Holds c d.room d.out) (sym w.bench)
+    subst (λ (c : Option Link). Holds c d.room d.out) (sym w.bench)
     (record {
       whole = ap length w.kept ∙ h.whole;
       long = ap length w.written ∙ h.long;
-      unit = λ e. subst (UnitReached b.link) (sym w.kept) (h.unit e);
+      unit = λ u e. subst (UnitReached u) (sym w.kept) (h.unit u e);
     })
 
-start_holds : (b : Bench) (s : Setup) (room out : List ℕ) (d : Done) → Holds b room out → StartDone b s room out d → HoldsIn d
+start_holds : (b : Option Link) (s : Setup) (room out : List ℕ) (d : Done) → Holds b room out → StartDone b s room out d → HoldsIn d
 start_holds b s room out d h w = by ((start_exactly.number s _).0 refl)
   where
     by : {n : ℕ} → StartRuled s n → HoldsIn d
     by (start_4 unfit) = as_it_was b room out d h (w.refused unfit).all
-    by (start_0 fits) = as_it_was _ room out d (record { whole = h.whole; long = h.long; unit = λ e. fresh_reached s room fits h.whole }) (w.accepted fits).all
+    by (start_0 fits) = as_it_was _ room out d (record { whole = h.whole; long = h.long; unit = λ u e. subst (λ (v : Link). UnitReached v room) (same_Some _ _ e) (fresh_reached s room fits h.whole) }) (w.accepted fits).all
 
-order_holds : (u : Link) (o : Order) (room out : List ℕ) (d : Done) → Holds (bench_of true u) room out → OrderDone u o room out d → HoldsIn d
+order_holds : (u : Link) (o : Order) (room out : List ℕ) (d : Done) → Holds (Some u) room out → OrderDone u o room out d → HoldsIn d
 unfolding on_front
 order_holds u o room out d h w =
     let c = w.came in
-    let s = calls_more w.calls u room out (record { whole = h.whole; unit = h.unit refl }) in
+    let s = calls_more w.calls u room out (record { whole = h.whole; unit = h.unit u refl }) in
     let bs = outputs (made_on u room out w.calls) in
     let size : length d.out ≡ length (bs ++ drop (length bs) out) = ap length c.written in
-    subst (λ (b : Bench). Holds b d.room d.out) (sym c.bench)
+    subst (λ (b : Option Link). Holds b d.room d.out) (sym c.bench)
     (record {
       whole = ap length c.kept ∙ s.whole;
       long = omega (arith, h.long, length-append bs (drop (length bs) out), length-drop (length bs) out, outputs_within w.calls u room out);
-      unit = λ e. subst (UnitReached _) (sym c.kept) s.unit;
+      unit = λ v e. subst (λ (x : Link). UnitReached x d.room) (same_Some _ _ e) (subst (UnitReached _) (sym c.kept) s.unit);
     })
 
-does_holds : (u : Link) (o : Order) (room out : List ℕ) (d : Done) → Holds (bench_of true u) room out → Does u o room out d → HoldsIn d
-does_holds u (starts s) room out d h w = start_holds (bench_of true u) s room out d h w
+does_holds : (u : Link) (o : Order) (room out : List ℕ) (d : Done) → Holds (Some u) room out → Does u o room out d → HoldsIn d
+does_holds u (starts s) room out d h w = start_holds (Some u) s room out d h w
 does_holds u (opens q bs) room out d h w = order_holds u (opens q bs) room out d h w
 does_holds u (replies p f bs) room out d h w = order_holds u (replies p f bs) room out d h w
 does_holds u (frees_own p) room out d h w = order_holds u (frees_own p) room out d h w
@@ -147,31 +146,26 @@ does_holds u (frees_incoming p) room out d h w = order_holds u (frees_incoming p
 does_holds u (hears bs) room out d h w = order_holds u (hears bs) room out d h w
 does_holds u (waits n) room out d h w = order_holds u (waits n) room out d h w
 does_holds u drains room out d h w = order_holds u drains room out d h w
-does_holds u (shows p) room out d h w = as_it_was (bench_of true u) room out d h w.all
-does_holds u counts room out d h w = as_it_was (bench_of true u) room out d h w.all
+does_holds u (shows p) room out d h w = as_it_was (Some u) room out d h w.all
+does_holds u counts room out d h w = as_it_was (Some u) room out d h w.all
 
-early_holds : (b : Bench) (o : Order) (room out : List ℕ) (d : Done) → Holds b room out → DoesEarly b o room out d → HoldsIn d
-early_holds b (starts s) room out d h w = start_holds b s room out d h w
-early_holds b (opens q bs) room out d h w = as_it_was b room out d h w.all
-early_holds b (replies p f bs) room out d h w = as_it_was b room out d h w.all
-early_holds b (frees_own p) room out d h w = as_it_was b room out d h w.all
-early_holds b (frees_incoming p) room out d h w = as_it_was b room out d h w.all
-early_holds b (hears bs) room out d h w = as_it_was b room out d h w.all
-early_holds b (waits n) room out d h w = as_it_was b room out d h w.all
-early_holds b drains room out d h w = as_it_was b room out d h w.all
-early_holds b (shows p) room out d h w = as_it_was b room out d h w.all
-early_holds b counts room out d h w = as_it_was b room out d h w.all
+early_holds : (o : Order) (room out : List ℕ) (d : Done) → Holds None room out → DoesEarly o room out d → HoldsIn d
+early_holds (starts s) room out d h w = start_holds None s room out d h w
+early_holds (opens q bs) room out d h w = as_it_was None room out d h w.all
+early_holds (replies p f bs) room out d h w = as_it_was None room out d h w.all
+early_holds (frees_own p) room out d h w = as_it_was None room out d h w.all
+early_holds (frees_incoming p) room out d h w = as_it_was None room out d h w.all
+early_holds (hears bs) room out d h w = as_it_was None room out d h w.all
+early_holds (waits n) room out d h w = as_it_was None room out d h w.all
+early_holds drains room out d h w = as_it_was None room out d h w.all
+early_holds (shows p) room out d h w = as_it_was None room out d h w.all
+early_holds counts room out d h w = as_it_was None room out d h w.all
 
-said_holds : (b : Bench) (line room out : List ℕ) → Holds b room out → length line ≤ 1024 → OneOf line → HoldsIn (line_done b line room out)
-said_holds b line room out h short w = by b.started refl
-  where
-    by : (t : Bool) → b.started ≡ t → HoldsIn (line_done b line room out)
-    by true e =
-        does_holds b.link w.order room out _ (subst (λ (t : Bool). Holds (bench_of t b.link) room out) e h)
-        ((lines_do b line room out).started e short w.order w.is)
-    by false e = early_holds b w.order room out _ h ((lines_do b line room out).early e short w.order w.is)
+said_holds : (b : Option Link) (line room out : List ℕ) → Holds b room out → length line ≤ 1024 → OneOf line → HoldsIn (line_done b line room out)
+said_holds None line room out h short w = early_holds w.order room out _ h ((lines_do None line room out).early refl short w.order w.is)
+said_holds (Some u) line room out h short w = does_holds u w.order room out _ h ((lines_do (Some u) line room out).started u refl short w.order w.is)
 
-line_holds : (b : Bench) (line room out : List ℕ) → Holds b room out → HoldsIn (line_done b line room out)
+line_holds : (b : Option Link) (line room out : List ℕ) → Holds b room out → HoldsIn (line_done b line room out)
 unfolding line_done
 line_holds b line room out h =
     either (ltb 1024 (length line)) (λ t. HoldsIn (line_done b line room out))
@@ -188,16 +182,15 @@ lines_hold [] t h = h
 lines_hold (line ∷ lines) t h = lines_hold lines (talk t line) (line_holds t.now.shown.bench line t.now.room t.now.out h)
 
 pub any_lines : (lines : List (List ℕ)) → HoldsIn (talked silence lines).now
-any_lines lines = lines_hold lines silence (record { whole = refl; long = refl; unit = λ e. absurd (false≢true e) })
+any_lines lines = lines_hold lines silence (record { whole = refl; long = refl; unit = λ u e. absurd (none-some u e) })
 
 pub units_reached : UnitsReached
 units_reached lines = (any_lines lines).unit
 
 pub above_three : AboveThree
-above_three lines e line p is short past =
+above_three lines u e line p is short past =
     let d = (talked silence lines).now in
-    let w = units_reached lines e in
-    let none : own_of d.shown.bench.link p ≡ None =
-    ap (λ (u : Link). own_of u p) (sym w.link) ∙ (none_above w.track w.reached.reached p past).0 in
-    let done = (lines_do d.shown.bench line d.room d.out).started e short (shows p) is in
+    let w = units_reached lines u e in
+    let none : own_of u p ≡ None = ap (λ (v : Link). own_of v p) (sym w.link) ∙ (none_above w.track w.reached.reached p past).0 in
+    let done = (lines_do d.shown.bench line d.room d.out).started u e short (shows p) is in
     subst (λ (r : Option OwnReading). ReadingText r p (text_done (line_done d.shown.bench line d.room d.out))) none done.text

@@ -1,7 +1,7 @@
 -- What each line does, and what is printed for it (01, "Bench program and proved table"): over every line, unit, room and output memory.
 -- Which line asks for what is `LineIs` (script/specs/Lines.antt), the unit's calls are `called` (link/specs/History.antt), and what a user
 -- reads of a place is `own_of`, of the reports that were dropped `dropped_of` (link/specs/Reading.antt). Proved in `proofs/Lines.antt`.
-use Rattle.std.specs.Prelude.{ℕ, suc, ◌+◌, ◌≤◌, ◌<◌, ◌≡◌, true, false, List, [], ◌∷◌, ◌++◌, length, drop, None, Option, Some}
+use Rattle.std.specs.Prelude.{ℕ, suc, ◌+◌, ◌≤◌, ◌<◌, ◌≡◌, List, [], ◌∷◌, ◌++◌, length, drop, None, Option, Some}
 use Rattle.wire.specs.Lent.{on_front}
 use Rattle.place.specs.declared.Standing.{Standing}
 use Rattle.place.specs.declared.Standing.TheVariants as standing
@@ -20,8 +20,7 @@ use Rattle.link.specs.declared.Link.{Link}
 use Rattle.link.specs.declared.Setup.{Setup}
 use Rattle.script.specs.Lines.{Order, starts, opens, replies, frees_own, frees_incoming, hears, waits, drains, shows, counts, LineIs, OneOf}
 use Rattle.script.specs.Printed.{number_text, data_text}
-use Rattle.talk.specs.Answer.{Done, bench_of, line_done, text_done}
-use Rattle.talk.specs.declared.Bench.{Bench}
+use Rattle.talk.specs.Answer.{Done, line_done, text_done}
 
 -- ---- the calls of a line
 
@@ -79,7 +78,7 @@ answer_line ls = number_text (last_number ls) ++ (0x20 ∷ (data_text (outputs l
 -- what these calls come to
 pub record CallsDone (u : Link) (room out : List ℕ) (ls : List Left) (d : Done) : Type 0 where
   pub text : text_done d ≡ answer_line ls
-  pub bench : d.shown.bench ≡ bench_of true (last_link u ls)
+  pub bench : d.shown.bench ≡ Some (last_link u ls)
   pub kept : d.room ≡ last_room room ls
   -- of the memory for output they fill the front
   pub written : d.out ≡ on_front (outputs ls) out
@@ -91,14 +90,14 @@ pub record OrderDone (u : Link) (o : Order) (room out : List ℕ) (d : Done) : T
 
 -- ---- lines that make no call
 
--- unit, room and memory for output, and whether the unit was started
-pub record AsItWas (b : Bench) (room out : List ℕ) (d : Done) : Type 0 where
+-- the unit, if there is one, the room and the memory for output
+pub record AsItWas (b : Option Link) (room out : List ℕ) (d : Done) : Type 0 where
   pub bench : d.shown.bench ≡ b
   pub kept : d.room ≡ room
   pub written : d.out ≡ out
 
 -- "prints `?`"
-pub record Question (b : Bench) (room out : List ℕ) (d : Done) : Type 0 where
+pub record Question (b : Option Link) (room out : List ℕ) (d : Done) : Type 0 where
   pub text : text_done d ≡ 0x3F ∷ 0x0A ∷ []
   pub all : AsItWas b room out d
 
@@ -126,26 +125,26 @@ ReadingText (Some r) p text = VerdictText r.standing p text
 
 pub record VerdictDone (u : Link) (p : ℕ) (room out : List ℕ) (d : Done) : Type 0 where
   pub text : ReadingText (own_of u p) p (text_done d)
-  pub all : AsItWas (bench_of true u) room out d
+  pub all : AsItWas (Some u) room out d
 
 -- "`K n`, decimal" (02, request 2): how many reports were dropped, as it is read of the unit
 pub record DroppedDone (u : Link) (room out : List ℕ) (d : Done) : Type 0 where
   pub text : text_done d ≡ 0x4B ∷ 0x20 ∷ (number_text (dropped_of u) ++ (0x0A ∷ []))
-  pub all : AsItWas (bench_of true u) room out d
+  pub all : AsItWas (Some u) room out d
 
 -- a start that is accepted begins anew, and the room is as it was
 pub record StartAccepted (s : Setup) (room out : List ℕ) (d : Done) : Type 0 where
   -- `0 - 20`
   pub text : text_done d ≡ 0x30 ∷ 0x20 ∷ 0x2D ∷ 0x20 ∷ 0x32 ∷ 0x30 ∷ 0x0A ∷ []
-  pub all : AsItWas (bench_of true (fresh_link (in_ticks s) s.last)) room out d
+  pub all : AsItWas (Some (fresh_link (in_ticks s) s.last)) room out d
 
--- a refused one leaves the unit that there was, and whether it was started (docs/READINGS.md, 26)
-pub record StartRefused (b : Bench) (room out : List ℕ) (d : Done) : Type 0 where
+-- a refused one leaves the unit that there was, or none (docs/READINGS.md, 26)
+pub record StartRefused (b : Option Link) (room out : List ℕ) (d : Done) : Type 0 where
   -- `4 - 20`
   pub text : text_done d ≡ 0x34 ∷ 0x20 ∷ 0x2D ∷ 0x20 ∷ 0x32 ∷ 0x30 ∷ 0x0A ∷ []
   pub all : AsItWas b room out d
 
-pub record StartDone (b : Bench) (s : Setup) (room out : List ℕ) (d : Done) : Type 0 where
+pub record StartDone (b : Option Link) (s : Setup) (room out : List ℕ) (d : Done) : Type 0 where
   pub accepted : SetupFits s → StartAccepted s room out d
   pub refused : (SetupFits s → ⊥) → StartRefused b room out d
 
@@ -153,7 +152,7 @@ pub record StartDone (b : Bench) (s : Setup) (room out : List ℕ) (d : Done) : 
 
 -- a line for a unit that was started
 abbrev pub Does : Link → Order → List ℕ → List ℕ → Done → Type 0
-Does u (starts s) room out d = StartDone (bench_of true u) s room out d
+Does u (starts s) room out d = StartDone (Some u) s room out d
 Does u (opens q bs) room out d = OrderDone u (opens q bs) room out d
 Does u (replies p f bs) room out d = OrderDone u (replies p f bs) room out d
 Does u (frees_own p) room out d = OrderDone u (frees_own p) room out d
@@ -165,25 +164,25 @@ Does u (shows p) room out d = VerdictDone u p room out d
 Does u counts room out d = DroppedDone u room out d
 
 -- "before the first start that was not refused": of all lines a start alone does anything
-abbrev pub DoesEarly : Bench → Order → List ℕ → List ℕ → Done → Type 0
-DoesEarly b (starts s) room out d = StartDone b s room out d
-DoesEarly b (opens q bs) room out d = Question b room out d
-DoesEarly b (replies p f bs) room out d = Question b room out d
-DoesEarly b (frees_own p) room out d = Question b room out d
-DoesEarly b (frees_incoming p) room out d = Question b room out d
-DoesEarly b (hears bs) room out d = Question b room out d
-DoesEarly b (waits n) room out d = Question b room out d
-DoesEarly b drains room out d = Question b room out d
-DoesEarly b (shows p) room out d = Question b room out d
-DoesEarly b counts room out d = Question b room out d
+abbrev pub DoesEarly : Order → List ℕ → List ℕ → Done → Type 0
+DoesEarly (starts s) room out d = StartDone None s room out d
+DoesEarly (opens q bs) room out d = Question None room out d
+DoesEarly (replies p f bs) room out d = Question None room out d
+DoesEarly (frees_own p) room out d = Question None room out d
+DoesEarly (frees_incoming p) room out d = Question None room out d
+DoesEarly (hears bs) room out d = Question None room out d
+DoesEarly (waits n) room out d = Question None room out d
+DoesEarly drains room out d = Question None room out d
+DoesEarly (shows p) room out d = Question None room out d
+DoesEarly counts room out d = Question None room out d
 
-pub record LineDoes (b : Bench) (line room out : List ℕ) (d : Done) : Type 0 where
+pub record LineDoes (b : Option Link) (line room out : List ℕ) (d : Done) : Type 0 where
   -- "A line it can't read .., over 1,024 bytes"
   pub unsaid : (OneOf line → ⊥) → Question b room out d
   pub long : 1024 < length line → Question b room out d
   -- any other
-  pub early : b.started ≡ false → length line ≤ 1024 → (o : Order) → LineIs line o → DoesEarly b o room out d
-  pub started : b.started ≡ true → length line ≤ 1024 → (o : Order) → LineIs line o → Does b.link o room out d
+  pub early : b ≡ None → length line ≤ 1024 → (o : Order) → LineIs line o → DoesEarly o room out d
+  pub started : (u : Link) → b ≡ Some u → length line ≤ 1024 → (o : Order) → LineIs line o → Does u o room out d
 
 abbrev pub LinesDo : Type 0
-LinesDo = (b : Bench) (line room out : List ℕ) → LineDoes b line room out (line_done b line room out)
+LinesDo = (b : Option Link) (line room out : List ℕ) → LineDoes b line room out (line_done b line room out)

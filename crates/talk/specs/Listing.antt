@@ -1,6 +1,6 @@
 -- 01's listing ("Bench program and proved table"): what is printed for its eight lines, from before the first start.
-use Rattle.std.specs.Prelude.{ℕ, ◌≡◌, List, [], ◌∷◌, ◌++◌, replicate}
-use Rattle.talk.specs.Answer.{Done, done, unread_shown, nothing_started, line_done, text_done}
+use Rattle.std.specs.Prelude.{ℕ, ◌≡◌, List, [], ◌∷◌, ◌++◌, replicate, None}
+use Rattle.talk.specs.Answer.{Done, done, unread_shown, line_done, text_done}
 
 -- the lines so far: what the last one came to, and what was printed for each
 pub record Talk : Type 0 where
@@ -19,9 +19,9 @@ unfoldable pub talked : Talk → List (List ℕ) → Talk
 talked t [] = t
 talked t (line ∷ lines) = talked (talk t line) lines
 
--- before the first line: the program's room and its memory for output are zeros
+-- before the first line there is no unit; the program's room and its memory for output are zeros
 abbrev pub silence : Talk
-silence = record { now = done (unread_shown nothing_started) (replicate 36864 0) (replicate 4096 0); printed = [] }
+silence = record { now = done (unread_shown None) (replicate 36864 0) (replicate 4096 0); printed = [] }
 
 -- the lines, in ASCII
 abbrev pub input : List (List ℕ)

@@ -1,6 +1,6 @@
 -- The memory of 4,096 bytes that bench lends for what a line puts out (01, "Bench program and proved table": "outputs joined"): it holds
 -- what any line puts out, so that no call of a line is refused for it. Proved in `proofs/Output.antt`.
-use Rattle.std.specs.Prelude.{ℕ, ◌≤◌, ◌≡◌, true, List, [], ◌∷◌, length, drop}
+use Rattle.std.specs.Prelude.{ℕ, ◌≤◌, ◌≡◌, List, [], ◌∷◌, length, drop, Some}
 use Rattle.link.specs.History.{Call, called}
 use Rattle.link.specs.declared.Link.{Link}
 use Rattle.script.specs.Lines.{Order, LineIs}
@@ -15,11 +15,11 @@ EachLent u room out (k ∷ ks) =
     (257 ≤ length out)
     × EachLent (called u room out k).answer.link (called u room out k).room (drop (called u room out k).answer.count out) ks
 
-abbrev pub LentIn : Done → List Call → Type 0
-LentIn d ks = EachLent d.shown.bench.link d.room d.out ks
+abbrev pub LentIn : Link → Done → List Call → Type 0
+LentIn u d ks = EachLent u d.room d.out ks
 
 -- behind any lines, once a start was not refused: the calls of any line
 abbrev pub OutputHolds : Type 0
 OutputHolds =
-    (lines : List (List ℕ)) → (talked silence lines).now.shown.bench.started ≡ true
-    → (line : List ℕ) (o : Order) (ks : List Call) → LineIs line o → length line ≤ 1024 → Makes o ks → LentIn (talked silence lines).now ks
+    (lines : List (List ℕ)) (u : Link) → (talked silence lines).now.shown.bench ≡ Some u
+    → (line : List ℕ) (o : Order) (ks : List Call) → LineIs line o → length line ≤ 1024 → Makes o ks → LentIn u (talked silence lines).now ks

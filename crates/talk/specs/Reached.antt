@@ -2,7 +2,7 @@
 -- were made since, the room coming back as the last call left it. So what link proves of all that can be reached (`Always`,
 -- link/specs/Inside.antt) holds of it behind every line: which place is free, which verdict a place has, that 3 is never answered.
 -- Proved in `proofs/Reached.antt`.
-use Rattle.std.specs.Prelude.{ℕ, ◌≤◌, ◌<◌, ◌≡◌, true, List, [], ◌∷◌, length}
+use Rattle.std.specs.Prelude.{ℕ, ◌≤◌, ◌<◌, ◌≡◌, List, [], ◌∷◌, length, Some}
 use Rattle.link.specs.History.{Track}
 use Rattle.link.specs.Inside.{ReachedBack}
 use Rattle.link.specs.declared.Link.{Link}
@@ -20,11 +20,10 @@ pub record UnitReached (u : Link) (room : List ℕ) : Type 0 where
 -- "before the first start that was not refused" there is none; from then on, whatever lines come
 abbrev pub UnitsReached : Type 0
 UnitsReached =
-    (lines : List (List ℕ)) → (talked silence lines).now.shown.bench.started ≡ true
-    → UnitReached (talked silence lines).now.shown.bench.link (talked silence lines).now.room
+    (lines : List (List ℕ)) (u : Link) → (talked silence lines).now.shown.bench ≡ Some u → UnitReached u (talked silence lines).now.room
 
 -- "`9 - 20` for .. one above 3": `V` of any such place, behind any lines
 abbrev pub AboveThree : Type 0
 AboveThree =
-    (lines : List (List ℕ)) → (talked silence lines).now.shown.bench.started ≡ true → (line : List ℕ) (p : ℕ) → LineIs line (shows p) → length line ≤ 1024
+    (lines : List (List ℕ)) (u : Link) → (talked silence lines).now.shown.bench ≡ Some u → (line : List ℕ) (p : ℕ) → LineIs line (shows p) → length line ≤ 1024
     → 3 < p → text_done (talk (talked silence lines) line).now ≡ 0x39 ∷ 0x20 ∷ 0x2D ∷ 0x20 ∷ 0x32 ∷ 0x30 ∷ 0x0A ∷ []

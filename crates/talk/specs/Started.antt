@@ -1,6 +1,6 @@
 -- From which line on there is a unit (01, "Bench program and proved table"), by the lines alone: there is one behind a start that was not
 -- refused, whatever comes then, and none before. Proved in `proofs/Started.antt`.
-use Rattle.std.specs.Prelude.{ℕ, ◌≤◌, ◌≡◌, true, List, [], ◌∷◌, ◌↔◌, length}
+use Rattle.std.specs.Prelude.{ℕ, ◌≤◌, ◌≡◌, IsSome, List, [], ◌∷◌, ◌↔◌, length}
 use Rattle.link.specs.Refusals.{SetupFits}
 use Rattle.link.specs.declared.Setup.{Setup}
 use Rattle.script.specs.Lines.{starts, LineIs}
@@ -20,7 +20,7 @@ pub data StartAmong : List (List ℕ) → Type 0 where
   later : (line : List ℕ) (lines : List (List ℕ)) → StartAmong lines → StartAmong (line ∷ lines)
 
 abbrev pub StartedExactly : Type 0
-StartedExactly = (lines : List (List ℕ)) → ((talked silence lines).now.shown.bench.started ≡ true) ↔ StartAmong lines
+StartedExactly = (lines : List (List ℕ)) → IsSome (talked silence lines).now.shown.bench ↔ StartAmong lines
 
 -- "A line .. before the first start that was not refused, prints `?`": any line that is no start (a refused one prints `4 - 20`,
 -- docs/READINGS.md, 26)

@@ -6,17 +6,11 @@
 use link::Link;
 use script::Printed;
 
-// The unit that lines are about, and whether there is one yet: a line "before the first start that was not refused, prints `?`".
-#[derive(Clone, Copy)]
-pub struct Bench {
-    pub started: bool,
-    pub link: Link,
-}
-
-// What a line came to: the unit that the next one is about, what is to be printed, and how many bytes went out.
+// What a line came to: the unit that the next one is about, what is to be printed, and how many bytes went out. There is no unit yet
+// where the next line comes "before the first start that was not refused".
 #[derive(Clone, Copy)]
 pub struct Shown {
-    pub bench: Bench,
+    pub bench: Option<Link>,
     pub printed: Printed,
     pub count: usize,
 }

@@ -8,7 +8,7 @@ use lib.Dec.{ltb}
 use lib.ListN.{length, get_or}
 use borrow.Author.Tests.{le-ltb, ltb-false}
 use Rattle.std.specs.Prelude.{Option, Some, unwrap_or, option_and_then}
-use Rattle.std.proofs.lemmas.Option.{none-some}
+use Rattle.std.proofs.lemmas.Option.{none-some, same_Some}
 use Rattle.wire.proofs.Choice.{chosen}
 use Rattle.text.specs.Number.{with_digit, with_digits}
 use Rattle.text.specs.Theorems.{value_of}
@@ -37,10 +37,6 @@ at_least n bs =
     let more : n * 1 ≤ n * 10 ^ length bs = mul-le-mul_left n ten in
     omega arith
 
--- a number is itself
-pub some_same : {n m : ℕ} → Some n ≡ Some m → n ≡ m
-some_same e = ap (λ (o : Option ℕ). unwrap_or o 0) e
-
 digit_some : (n b : ℕ) → Decimal b → n * 10 + (b - 0x30) ≤ 100000 → with_digit n b ≡ Some (n * 10 + (b - 0x30))
 unfolding with_digit
 digit_some n b d few = rw (le-ltb b 0x30 d.0, le-ltb 0x39 b d.1, le-ltb 100000 (n * 10 + (b - 0x30)) few)
@@ -58,7 +54,7 @@ pub record DigitsRead (bs : List ℕ) (n m : ℕ) : Type 0 where
 
 pub digits_read : (bs : List ℕ) (n m : ℕ) → n ≤ 100000 → with_digits n bs ≡ Some m → DigitsRead bs n m
 unfolding with_digits with_digit
-digits_read [] n m h = λ e. let is = some_same e in record { most = omega arith; digits = λ i l. absurd (omega arith); value = worth_none n ∙ is }
+digits_read [] n m h = λ e. let is = same_Some _ _ e in record { most = omega arith; digits = λ i l. absurd (omega arith); value = worth_none n ∙ is }
 digits_read (b ∷ bs) n m h =
     chosen (λ (o : Option ℕ). option_and_then (λ k. with_digits k bs) o ≡ Some m → DigitsRead (b ∷ bs) n m) (ltb b 0x30) _ _ (λ low e. absurd (none-some _ e))
     (λ low. chosen (λ (o : Option ℕ). option_and_then (λ k. with_digits k bs) o ≡ Some m → DigitsRead (b ∷ bs) n m) (ltb 0x39 b) _ _ (λ high e. absurd (none-some _ e))

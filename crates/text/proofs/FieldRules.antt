@@ -7,11 +7,10 @@ use lib.ListN.{length, take, drop, get_or}
 use lib.Seq.{take-length, take_at, drop-append-add}
 use borrow.Author.Tests.{eq-eqb, ne_eqb}
 use Rattle.std.specs.Prelude.{Some, None}
-use Rattle.std.proofs.lemmas.Option.{none-some}
+use Rattle.std.proofs.lemmas.Option.{none-some, same_Some}
 use Rattle.text.specs.Find.{index_after, index_of}
 use Rattle.text.specs.Field.{field_of, behind_of, letter_of}
 use Rattle.text.specs.Theorems.{Lacks, IndexExactly, FieldsExactly, LetterExactly}
-use Rattle.text.proofs.Digits.{some_same}
 use Rattle.text.proofs.Scanning.{nothing_behind}
 
 -- where the first b of a text stands that has none, and of one with a b behind it
@@ -44,7 +43,7 @@ fields_exactly text more free = record {
 pub letter_exactly : LetterExactly
 unfolding letter_of
 letter_exactly [] b = (λ e. absurd (none-some _ e), λ e. absurd (omega (arith, ap length e)))
-letter_exactly (x ∷ []) b = (λ e. ap (λ (k : ℕ). k ∷ []) (some_same e), λ e. ap (λ (l : List ℕ). Some (get_or l 0 0)) e)
+letter_exactly (x ∷ []) b = (λ e. ap (λ (k : ℕ). k ∷ []) (same_Some _ _ e), λ e. ap (λ (l : List ℕ). Some (get_or l 0 0)) e)
 letter_exactly (x ∷ y ∷ rest) b =
     let longer : letter_of (x ∷ y ∷ rest) ≡ None = rw (ne_eqb (length (x ∷ y ∷ rest)) 1 (λ e. omega arith)) in
     (λ e. absurd (none-some _ (sym longer ∙ e)), λ e. absurd (omega (arith, ap length e)))

@@ -10,14 +10,13 @@ use borrow.Author.Tests.{ltb-false, leb-true}
 use lib.ListN.{length, drop, get_or, set, length-drop}
 use lib.Seq.{take-length, drop-length, drop-nil, drop-cons, drop-drop, paste, paste-suc}
 use Rattle.std.specs.Prelude.{Option, Some, None, is_some, unwrap_or, option_and_then}
-use Rattle.std.proofs.lemmas.Option.{none-some}
+use Rattle.std.proofs.lemmas.Option.{none-some, same_Some}
 use Rattle.text.specs.Find.{index_of}
 use Rattle.wire.specs.Lent.{on_front}
 use Rattle.wire.proofs.Choice.{chosen}
 use Rattle.text.specs.Field.{space, behind_of}
 use Rattle.text.specs.Number.{with_digit, with_digits, number_of}
 use Rattle.text.specs.Hex.{digit_of, are_digits, byte_of, data_of}
-use Rattle.text.proofs.Digits.{some_same}
 
 -- nothing stands behind the end
 pub nothing_behind : (text : List ℕ) (n : ℕ) → length text ≤ n → drop n text ≡ []
@@ -40,7 +39,7 @@ digit_most n b m =
     chosen (λ (o : Option ℕ). o ≡ Some m → m ≤ 100000) (ltb b 0x30) _ _ (λ e o. absurd (none-some _ o))
     (λ e. chosen (λ (o : Option ℕ). o ≡ Some m → m ≤ 100000) (ltb 0x39 b) _ _ (λ e o. absurd (none-some _ o))
     (λ e. chosen (λ (o : Option ℕ). o ≡ Some m → m ≤ 100000) (ltb 100000 (n * 10 + (b - 0x30))) _ _ (λ e o. absurd (none-some _ o))
-    (λ e o. omega (arith, ltb-false 100000 (n * 10 + (b - 0x30)) e, some_same o))))
+    (λ e o. omega (arith, ltb-false 100000 (n * 10 + (b - 0x30)) e, same_Some _ _ o))))
 
 pub digits_on : (text : List ℕ) (i n : ℕ) → i < length text
     → with_digits n (drop i text) ≡ option_and_then (λ (m : ℕ). with_digits m (drop (i + 1) text)) (with_digit n (get_or text i 0))
