@@ -32,12 +32,13 @@ pub fn behind(text: &[u8]) -> &[u8]
     &text[0..0]
 }
 
-// The byte of a field that is one byte, or 0.
-pub fn letter(text: &[u8]) -> u8
+// The byte of a field that is one byte.
+#[tactic(auto, unfolding(text::specs::Field::letter_of))]
+pub fn letter(text: &[u8]) -> Option<u8>
     ensures { result ≡ letter_of text.now }
 {
     if text.len() == 1 {
-        return text[0];
+        return Some(text[0]);
     }
-    0
+    None
 }

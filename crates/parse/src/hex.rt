@@ -3,30 +3,23 @@ ghost use Rattle.std.specs.Prelude.{◌≡◌};
 ghost use Rattle.wire.specs.Lent.{filled, filled_with};
 ghost use Rattle.text.specs.Hex.{are_digits, byte_of, data_of, digit_of, is_data};
 
-// The value of a hex digit of either case, or 16.
+// The value of a hex digit of either case.
 #[tactic(auto, unfolding(text::specs::Hex::digit_of))]
-fn digit(byte: u8) -> u8
+fn digit(byte: u8) -> Option<u8>
     ensures { result ≡ digit_of byte }
 {
     match byte {
-        b'0'..=b'9' => byte - b'0',
-        b'A'..=b'F' => byte - b'A' + 10,
-        b'a'..=b'f' => byte - b'a' + 10,
-        _ => 16,
+        b'0'..=b'9' => Some(byte - b'0'),
+        b'A'..=b'F' => Some(byte - b'A' + 10),
+        b'a'..=b'f' => Some(byte - b'a' + 10),
+        _ => None,
     }
 }
 
 fn are_digits(text: &[u8]) -> bool
     ensures { result ≡ are_digits text.now }
 {
-    let mut i: usize = 0;
-    while i < text.len() {
-        if 15 < digit(text[i]) {
-            return false;
-        }
-        i += 1;
-    }
-    true
+    text.iter().all(|byte| digit(*byte).is_some())
 }
 
 // Whether a field says bytes: `-`, or hex digits, two for a byte.
@@ -45,11 +38,11 @@ pub fn is_data(text: &[u8]) -> bool
     are_digits(text)
 }
 
-// The byte that two digits say. Of what are no digits it is some byte: `is_data` tells which fields are digits.
+// The byte that two digits say. What is no digit counts as 0: `is_data` tells which fields are digits.
 fn pair(first: u8, second: u8) -> u8
     ensures { result ≡ byte_of first second }
 {
-    digit(first) % 16 * 16 + digit(second) % 16
+    digit(first).unwrap_or(0) * 16 + digit(second).unwrap_or(0)
 }
 
 // Puts the bytes that a field says at the front of `bytes`, and gives back how many there are. Where there is no room for all of them,

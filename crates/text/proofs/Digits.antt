@@ -7,7 +7,7 @@ use native.Mathlib.Omega.{arith}
 use lib.Dec.{ltb}
 use lib.ListN.{length, get_or}
 use borrow.Author.Tests.{le-ltb, ltb-false}
-use Rattle.std.specs.Prelude.{Option, Some, unwrap_or, option_and_then}
+use Rattle.std.specs.Prelude.{Option, Some, option_and_then}
 use Rattle.std.proofs.lemmas.Option.{none-some, same_Some}
 use Rattle.wire.proofs.Choice.{chosen}
 use Rattle.text.specs.Number.{with_digit, with_digits}

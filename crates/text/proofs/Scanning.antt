@@ -1,7 +1,7 @@
 -- Texts as the loops go over them: a byte looked for, a number digit by digit, bytes two digits at a time. Assumes nothing.
 use Prim.Native.Nat.{ℕ, zero, suc, ◌+◌, ◌-◌, ◌*◌, ◌/◌, ◌≤◌, ◌<◌}
 use mathlib.Core.Path.{◌≡◌, refl, sym, ap, ◌∙◌}
-use mathlib.Core.Bool.{true, ◌&&◌}
+use mathlib.Core.Bool.{Bool, ◌&&◌}
 use mathlib.Core.List.{List, [], ◌∷◌, ◌++◌}
 use native.Mathlib.Nat.{zero-add}
 use native.Mathlib.Omega.{arith}
@@ -10,6 +10,7 @@ use borrow.Author.Tests.{ltb-false, leb-true}
 use lib.ListN.{length, drop, get_or, set, length-drop}
 use lib.Seq.{take-length, drop-length, drop-nil, drop-cons, drop-drop, paste, paste-suc}
 use Rattle.std.specs.Prelude.{Option, Some, None, is_some, unwrap_or, option_and_then}
+use Rattle.std.specs.List.{list_all}
 use Rattle.std.proofs.lemmas.Option.{none-some, same_Some}
 use Rattle.text.specs.Find.{index_of}
 use Rattle.wire.specs.Lent.{on_front}
@@ -41,12 +42,20 @@ digit_most n b m =
     (λ e. chosen (λ (o : Option ℕ). o ≡ Some m → m ≤ 100000) (ltb 100000 (n * 10 + (b - 0x30))) _ _ (λ e o. absurd (none-some _ o))
     (λ e o. omega (arith, ltb-false 100000 (n * 10 + (b - 0x30)) e, same_Some _ _ o))))
 
-pub digits_on : (text : List ℕ) (i n : ℕ) → i < length text
+-- one digit more, and the digits behind it; and where there is none more
+digits_on : (text : List ℕ) (i n : ℕ) → i < length text
     → with_digits n (drop i text) ≡ option_and_then (λ (m : ℕ). with_digits m (drop (i + 1) text)) (with_digit n (get_or text i 0))
 unfolding with_digits
 digits_on text i n h =
     let next : suc i ≡ i + 1 = omega arith in
     ap (with_digits n) (drop-cons text i 0 h) ∙ ap (λ (k : ℕ). option_and_then (λ (m : ℕ). with_digits m (drop k text)) (with_digit n (get_or text i 0))) next
+
+pub digits_some : (text : List ℕ) (i n m : ℕ) → i < length text → with_digit n (get_or text i 0) ≡ Some m
+    → with_digits n (drop i text) ≡ with_digits m (drop (i + 1) text)
+digits_some text i n m h e = digits_on text i n h ∙ ap (option_and_then (λ (k : ℕ). with_digits k (drop (i + 1) text))) e
+
+pub digits_none : (text : List ℕ) (i n : ℕ) → i < length text → with_digit n (get_or text i 0) ≡ None → with_digits n (drop i text) ≡ None
+digits_none text i n h e = digits_on text i n h ∙ ap (option_and_then (λ (k : ℕ). with_digits k (drop (i + 1) text))) e
 
 pub digits_end : (text : List ℕ) (i n : ℕ) → length text ≤ i → with_digits n (drop i text) ≡ Some n
 unfolding with_digits
@@ -64,16 +73,11 @@ no_digits (b ∷ bs) e = absurd (omega arith)
 
 -- ---- bytes
 
-pub digits_left : (text : List ℕ) (i : ℕ) → i < length text
-    → are_digits (drop i text) ≡ (is_some (digit_of (get_or text i 0)) && are_digits (drop (i + 1) text))
+-- each byte of some digits is one
+pub all_digits : (text : List ℕ) → list_all (λ (b : ℕ). is_some (digit_of b)) text ≡ are_digits text
 unfolding are_digits
-digits_left text i h =
-    let next : suc i ≡ i + 1 = omega arith in
-    ap are_digits (drop-cons text i 0 h) ∙ ap (λ (k : ℕ). is_some (digit_of (get_or text i 0)) && are_digits (drop k text)) next
-
-pub digits_none : (text : List ℕ) (i : ℕ) → length text ≤ i → are_digits (drop i text) ≡ true
-unfolding are_digits
-digits_none text i h = ap are_digits (nothing_behind text i h)
+all_digits [] = refl
+all_digits (b ∷ bs) = ap (λ (t : Bool). is_some (digit_of b) && t) (all_digits bs)
 
 -- a digit is worth 15 at most
 pub value_most : (b : ℕ) → unwrap_or (digit_of b) 0 ≤ 15

@@ -1,37 +1,31 @@
 -- `number` meets its contract.
-use mathlib.Core.Path.{refl, sym, ◌∙◌}
-use native.Mathlib.Omega.{arith}
-use lib.ListN.{get_or}
-use Rattle.text.proofs.Scanning.{digits_on, digits_end, some_digits, no_digits, digit_most}
-use borrow.Author.Rules.{rules}
+use Rattle.std.proofs.Common.{◌≡◌, ◌<◌, ◌≤◌, Some, None, length, get_or, rules, arith, sym, ◌∙◌}
+use Rattle.text.specs.Number.{with_digit}
+use Rattle.text.proofs.Scanning.{digit_most, digits_some, digits_none, digits_end, some_digits, no_digits}
 use Rattle.parse.proofs.decimal.number.Goals as goal
 
 pub returns-then-text-eq0 : goal.returns-then-text-eq0
 returns-then-text-eq0 c = no_digits (c.args.text.now) c.if-text-eq0.true
 
-pub loop-i-init : goal.loop-i-init
-loop-i-init c = (omega arith, omega arith, refl)
-
-pub bounds-text-i : goal.bounds-text-i
-bounds-text-i c = search rules
-
-pub with_digit-value-requires : goal.with_digit-value-requires
-with_digit-value-requires c = c.loop-i.invariant.1
-
-pub overflow_add-i : goal.overflow_add-i
-overflow_add-i c = search rules
-
-pub loop-i-smaller : goal.loop-i-smaller
-loop-i-smaller c = search rules
-
-pub loop-i-preserved : goal.loop-i-preserved
-loop-i-preserved c =
+pub returns-in_err-value : goal.returns-in_err-value
+returns-in_err-value c =
     let text = c.args.text.now in
-    let i = c.loop-i.i in
-    let next = c.with_digit-value.ensures in
-    (omega arith, rw next (digit_most c.loop-i.value (get_or text i 0)), rw next (sym (digits_on text i c.loop-i.value c.loop-i-test.true)) ∙ c.loop-i.invariant.2)
+    let i = c.loop-byte.byte-index in
+    let more : i < length text = search rules in
+    let fails : with_digit c.loop-byte.value (get_or text i 0) ≡ None = search rules in
+    let is : c.from_residual.result ≡ None = search rules in
+    is ∙ sym (digits_none text i c.loop-byte.value more fails) ∙ c.loop-byte.invariant.1 ∙ some_digits text (omega (arith, more))
+
+pub loop-byte-preserved : goal.loop-byte-preserved
+loop-byte-preserved c =
+    let text = c.args.text.now in
+    let i = c.loop-byte.byte-index in
+    let more : i < length text = search rules in
+    let next : with_digit c.loop-byte.value (get_or text i 0) ≡ Some c.in_ok-value.value = search rules in
+    (digit_most _ _ _ next, sym (digits_some text i c.loop-byte.value _ more next) ∙ c.loop-byte.invariant.1)
 
 pub returns : goal.returns
 returns c =
     let text = c.args.text.now in
-    sym (digits_end text c.loop-i.i c.loop-i.value c.loop-i-test.false) ∙ c.loop-i.invariant.2 ∙ some_digits text (omega (arith, c.if-text-eq0.false))
+    let end : length text ≤ c.loop-byte.byte-index = search rules in
+    sym (digits_end text c.loop-byte.byte-index c.loop-byte.value end) ∙ c.loop-byte.invariant.1 ∙ some_digits text (omega (arith, c.if-text-eq0.false))

@@ -1,37 +1,12 @@
--- `are_digits` meets its contract.
-use mathlib.Core.Path.{refl, sym, ◌∙◌}
-use native.Mathlib.Omega.{arith}
-use borrow.Author.Tests.{lt-ltb, le-ltb}
-use Rattle.text.proofs.Scanning.{digits_left, digits_none}
-use borrow.Author.Rules.{rules}
+-- `are_digits` meets its contract: what `all` finds of every byte.
+use Rattle.std.proofs.Common.{ℕ, is_some, ◌∙◌, rules}
+use Rattle.std.proofs.lemmas.Iterator.{YieldsList-from_slice}
+use Rattle.std.proofs.lemmas.Iterator.Search.{all_from_yields_List}
+use Rattle.text.specs.Hex.{digit_of}
+use Rattle.text.proofs.Scanning.{all_digits}
 use Rattle.parse.proofs.hex.are_digits.Goals as goal
-
-pub loop-i-init : goal.loop-i-init
-loop-i-init c = (omega arith, refl)
-
-pub bounds-text-i : goal.bounds-text-i
-bounds-text-i c = search rules
-
-pub digit-requires : goal.digit-requires
-digit-requires c = search rules
-
-pub returns-then-digit-gt15 : goal.returns-then-digit-gt15
-returns-then-digit-gt15 c =
-    let text = c.args.text.now in
-    sym (simp (lt-ltb _ _ (rw c.digit.ensures at c.if-digit-gt15.true)) at (digits_left text c.loop-i.i c.loop-i-test.true)) ∙ c.loop-i.invariant.1
-
-pub overflow_add-i : goal.overflow_add-i
-overflow_add-i c = search rules
-
-pub loop-i-smaller : goal.loop-i-smaller
-loop-i-smaller c = search rules
-
-pub loop-i-preserved : goal.loop-i-preserved
-loop-i-preserved c =
-    let text = c.args.text.now in
-    (omega arith, sym (simp (le-ltb _ _ (rw c.digit.ensures at c.if-digit-gt15.false)) at (digits_left text c.loop-i.i c.loop-i-test.true)) ∙ c.loop-i.invariant.1)
 
 pub returns : goal.returns
 returns c =
-    let text = c.args.text.now in
-    sym (digits_none text c.loop-i.i c.loop-i-test.false) ∙ c.loop-i.invariant.1
+    all_from_yields_List (λ (b : ℕ). is_some (digit_of b)) _ _ _ c.all.ensures.ran (YieldsList-from_slice c.args.text.now cc) (λ x b q t. search rules)
+    ∙ all_digits c.args.text.now
