@@ -1,6 +1,7 @@
 // A line as a command.
-ghost use Rattle.std.specs.Prelude.{◌≡◌, ◌≤◌, length};
-ghost use Rattle.script.specs.Command.{alone_by, bytes_by, line_read, open_by, release_by, reply_by, start_by, ticks_by, told, verdict_by};
+ghost use Rattle.std.specs.Prelude.{◌≡◌, ◌≤◌, ℕ, eqb, length, option_map};
+ghost use Rattle.script.specs.Command.{alone_by, bytes_by, line_read, number_in, open_by, primary_in, release_by, reply_by, start_by, ticks_by, told, verdict_by, with_data};
+ghost use Rattle.script.specs.declared.Command.{Command};
 
 use exchange::Primary;
 use link::Setup;
@@ -8,23 +9,45 @@ use parse::{behind, field, is_data, letter, number, put_data};
 use script::Command;
 use settings::{Fifths, Seconds, Tenths};
 
-fn word(n: u32) -> u16
-    requires { n ≤ 65535 }
-    ensures { result ≡ n }
+// A number up to 65,535.
+fn word(text: &[u8]) -> Option<u16>
+    ensures { result ≡ number_in 65535 text.now }
 {
-    n as u16
+    u16::try_from(number(text)?).ok()
 }
 
-fn byte(n: u32) -> u8
-    requires { n ≤ 255 }
-    ensures { result ≡ n }
+// A number up to 255.
+fn byte(text: &[u8]) -> Option<u8>
+    ensures { result ≡ number_in 255 text.now }
 {
-    n as u8
+    u8::try_from(number(text)?).ok()
+}
+
+// W: 0 or 1.
+fn bit(text: &[u8]) -> Option<bool>
+    ensures { result ≡ option_map (λ n. eqb n 1) (number_in 1 text.now) }
+{
+    match number(text)? {
+        0 => Some(false),
+        1 => Some(true),
+        _ => None,
+    }
+}
+
+// Bytes, which are put at the front of `bytes`: how many they are.
+fn data(text: &[u8], bytes: &mut [u8; 512]) -> Option<usize>
+    requires { length text.now ≤ 1024 }
+    ensures { (command : ℕ → Command) → told (option_map command result) bytes.new ≡ with_data (Some command) text.now bytes.old }
+{
+    if is_data(text) {
+        return Some(put_data(text, bytes));
+    }
+    None
 }
 
 // `H` or `E`, behind it eight numbers.
 #[tactic(auto, unfolding(script::specs::Command::start_by))]
-fn start(host: bool, text: &[u8]) -> Command
+fn start(host: bool, text: &[u8]) -> Option<Command>
     ensures { result ≡ start_by host text.now }
 {
     let from_t2 = behind(text);
@@ -34,191 +57,120 @@ fn start(host: bool, text: &[u8]) -> Command
     let from_device = behind(from_rty);
     let from_duplicates = behind(from_device);
     let from_last = behind(from_duplicates);
-    let t1 = number(field(text));
-    let t2 = number(field(from_t2));
-    let t3 = number(field(from_t3));
-    let t4 = number(field(from_t4));
-    let rty = number(field(from_rty));
-    let device = number(field(from_device));
-    let duplicates = number(field(from_duplicates));
-    let last = number(from_last);
-    if 65535 < t1 {
-        return Command::Unreadable;
-    }
-    if 65535 < t2 {
-        return Command::Unreadable;
-    }
-    if 65535 < t3 {
-        return Command::Unreadable;
-    }
-    if 65535 < t4 {
-        return Command::Unreadable;
-    }
-    if 65535 < rty {
-        return Command::Unreadable;
-    }
-    if 65535 < device {
-        return Command::Unreadable;
-    }
-    if 65535 < duplicates {
-        return Command::Unreadable;
-    }
-    if 65535 < last {
-        return Command::Unreadable;
-    }
-    Command::Start(Setup {
+    Some(Command::Start(Setup {
         host,
-        t1: Tenths(word(t1)),
-        t2: Fifths(word(t2)),
-        t3: Seconds(word(t3)),
-        t4: Seconds(word(t4)),
-        rty: word(rty),
-        device: word(device),
-        duplicates: word(duplicates),
-        last: word(last),
+        t1: Tenths(word(field(text))?),
+        t2: Fifths(word(field(from_t2))?),
+        t3: Seconds(word(field(from_t3))?),
+        t4: Seconds(word(field(from_t4))?),
+        rty: word(field(from_rty))?,
+        device: word(field(from_device))?,
+        duplicates: word(field(from_duplicates))?,
+        last: word(from_last)?,
+    }))
+}
+
+// The four numbers behind `O`.
+#[tactic(auto, unfolding(script::specs::Command::primary_in))]
+fn primary(text: &[u8]) -> Option<Primary>
+    ensures { result ≡ primary_in text.now }
+{
+    let from_w = behind(text);
+    let from_stream = behind(from_w);
+    let from_function = behind(from_stream);
+    Some(Primary {
+        source: word(field(text))?,
+        w: bit(field(from_w))?,
+        stream: byte(field(from_stream))?,
+        function: byte(field(from_function))?,
     })
 }
 
 // `O`, behind it four numbers and the data.
 #[tactic(auto, unfolding(script::specs::Command::open_by))]
-fn open(text: &[u8], bytes: &mut [u8; 512]) -> Command
+fn open(text: &[u8], bytes: &mut [u8; 512]) -> Option<Command>
     requires { length text.now ≤ 1024 }
     ensures { told result bytes.new ≡ open_by text.now bytes.old }
 {
-    let from_w = behind(text);
-    let from_stream = behind(from_w);
-    let from_function = behind(from_stream);
-    let from_data = behind(from_function);
-    let source = number(field(text));
-    let w = number(field(from_w));
-    let stream = number(field(from_stream));
-    let function = number(field(from_function));
-    if 65535 < source {
-        return Command::Unreadable;
-    }
-    if 1 < w {
-        return Command::Unreadable;
-    }
-    if 255 < stream {
-        return Command::Unreadable;
-    }
-    if 255 < function {
-        return Command::Unreadable;
-    }
-    if is_data(from_data) {
-        let primary = Primary {
-            source: word(source),
-            w: w == 1,
-            stream: byte(stream),
-            function: byte(function),
-        };
-        return Command::Open {
-            primary,
-            length: put_data(from_data, bytes),
-        };
-    }
-    Command::Unreadable
+    let primary = primary(text)?;
+    let from_data = behind(behind(behind(behind(text))));
+    let length = data(from_data, bytes)?;
+    Some(Command::Open { primary, length })
 }
 
 // `R`, behind it two numbers and the data.
 #[tactic(auto, unfolding(script::specs::Command::reply_by))]
-fn reply(text: &[u8], bytes: &mut [u8; 512]) -> Command
+fn reply(text: &[u8], bytes: &mut [u8; 512]) -> Option<Command>
     requires { length text.now ≤ 1024 }
     ensures { told result bytes.new ≡ reply_by text.now bytes.old }
 {
     let from_function = behind(text);
-    let from_data = behind(from_function);
-    let place = number(field(text));
-    let function = number(field(from_function));
-    if 255 < place {
-        return Command::Unreadable;
-    }
-    if 255 < function {
-        return Command::Unreadable;
-    }
-    if is_data(from_data) {
-        return Command::Reply {
-            place: byte(place),
-            function: byte(function),
-            length: put_data(from_data, bytes),
-        };
-    }
-    Command::Unreadable
+    let place = byte(field(text))?;
+    let function = byte(field(from_function))?;
+    let length = data(behind(from_function), bytes)?;
+    Some(Command::Reply {
+        place,
+        function,
+        length,
+    })
 }
 
 // `L`, behind it `O` or `I` and a number.
 #[tactic(auto, unfolding(script::specs::Command::release_by))]
-fn release(text: &[u8]) -> Command
+fn release(text: &[u8]) -> Option<Command>
     ensures { result ≡ release_by text.now }
 {
-    let table = letter(field(text));
-    let place = number(behind(text));
-    if 255 < place {
-        return Command::Unreadable;
+    let table = letter(field(text))?;
+    let place = byte(behind(text))?;
+    match table {
+        b'O' => Some(Command::ReleaseOwn(place)),
+        b'I' => Some(Command::ReleaseIncoming(place)),
+        _ => None,
     }
-    if table == b'O' {
-        return Command::ReleaseOwn(byte(place));
-    }
-    if table == b'I' {
-        return Command::ReleaseIncoming(byte(place));
-    }
-    Command::Unreadable
 }
 
 // `B`, behind it bytes.
-fn bytes_in(text: &[u8], bytes: &mut [u8; 512]) -> Command
+#[tactic(auto, unfolding(script::specs::Command::bytes_by))]
+fn bytes_in(text: &[u8], bytes: &mut [u8; 512]) -> Option<Command>
     requires { length text.now ≤ 1024 }
     ensures { told result bytes.new ≡ bytes_by text.now bytes.old }
 {
-    if is_data(text) {
-        return Command::Bytes(put_data(text, bytes));
-    }
-    Command::Unreadable
+    Some(Command::Bytes(data(text, bytes)?))
 }
 
-// `T`, behind it a number.
+// `T`, behind it a number up to 100,000.
 #[tactic(auto, unfolding(script::specs::Command::ticks_by))]
-fn ticks(text: &[u8]) -> Command
+fn ticks(text: &[u8]) -> Option<Command>
     ensures { result ≡ ticks_by text.now }
 {
-    let count = number(text);
-    if 100000 < count {
-        return Command::Unreadable;
-    }
-    Command::Ticks(count)
+    Some(Command::Ticks(number(text)?))
 }
 
 // `V`, behind it a number.
 #[tactic(auto, unfolding(script::specs::Command::verdict_by))]
-fn verdict(text: &[u8]) -> Command
+fn verdict(text: &[u8]) -> Option<Command>
     ensures { result ≡ verdict_by text.now }
 {
-    let place = number(text);
-    if 255 < place {
-        return Command::Unreadable;
-    }
-    Command::Verdict(byte(place))
+    Some(Command::Verdict(byte(text)?))
 }
 
 // `D` or `K`, nothing behind it, not even a space.
-fn alone(command: Command, line: &[u8]) -> Command
+#[tactic(auto, unfolding(script::specs::Command::alone_by))]
+fn alone(command: Command, line: &[u8]) -> Option<Command>
     ensures { result ≡ alone_by command line.now }
 {
-    if line.len() == 1 {
-        return command;
-    }
-    Command::Unreadable
+    if line.len() == 1 { Some(command) } else { None }
 }
 
 // Reads a line, without its end. The bytes that it says are put at the front of `bytes`; of a line that can't be read, none.
-pub fn read_line(line: &[u8], bytes: &mut [u8; 512]) -> Command
+pub fn read_line(line: &[u8], bytes: &mut [u8; 512]) -> Option<Command>
     ensures { told result bytes.new ≡ line_read line.now bytes.old }
 {
     if 1024 < line.len() {
-        return Command::Unreadable;
+        return None;
     }
     let text = behind(line);
-    match letter(field(line)) {
+    match letter(field(line))? {
         b'H' => start(true, text),
         b'E' => start(false, text),
         b'O' => open(text, bytes),
@@ -229,6 +181,6 @@ pub fn read_line(line: &[u8], bytes: &mut [u8; 512]) -> Command
         b'D' => alone(Command::Drained, line),
         b'V' => verdict(text),
         b'K' => alone(Command::Dropped, line),
-        _ => Command::Unreadable,
+        _ => None,
     }
 }

@@ -1,18 +1,14 @@
 -- `command::bytes_in` meets its contract.
-use mathlib.Core.Path.{◌≡◌, refl, sym, ◌∙◌}
-use lib.ListN.{length}
+use Rattle.std.proofs.Common.{rules}
 use Rattle.script.specs.Command.{bytes_by}
-use Rattle.scribe.proofs.Commanding.{field_put}
-use borrow.Author.Rules.{rules}
+use Rattle.script.specs.declared.Command.TheVariants.{Bytes}
+use Rattle.scribe.proofs.Commanding.{told_by}
 use Rattle.scribe.proofs.command.bytes_in.Goals as goal
 
-pub returns-then-is_data : goal.returns-then-is_data
+pub returns-in_err-data : goal.returns-in_err-data
 unfolding bytes_by
-returns-then-is_data c =
-    let full : length c.args.bytes.now ≡ 512 = search rules in
-    let put = field_put 0 c.args.text.now _ c.args.bytes.now _ _ refl c.requires full c.put_data.ensures in
-    simp (sym c.is_data.ensures ∙ c.if-is_data.true, put.0, put.1)
+returns-in_err-data c = told_by (λ n. Bytes n) _ c.data.result _ _ (search rules) (c.data.ensures (λ n. Bytes n))
 
 pub returns : goal.returns
 unfolding bytes_by
-returns c = simp (sym c.is_data.ensures ∙ c.if-is_data.false)
+returns c = told_by (λ n. Bytes n) _ c.data.result _ _ (search rules) (c.data.ensures (λ n. Bytes n))
