@@ -1,7 +1,7 @@
 // What a line does, and what is printed for it (01, "Bench program and proved table").
 ghost use Rattle.std.specs.Prelude.{◌≡◌, ◌≤◌, length, take};
 ghost use Rattle.place.specs.Verdict.{standing_number};
-ghost use Rattle.talk.specs.Answer.{command_done, done, early_shown, line_done, nothing_started, shown_ran, start_shown, unread_shown, verdict_by};
+ghost use Rattle.talk.specs.Answer.{command_done, done, early_shown, line_done, shown_ran, start_shown, unread_shown, verdict_by};
 ghost use Rattle.link.specs.Reading.{own_of};
 
 use crate::run;
@@ -9,31 +9,7 @@ use exchange::OwnReading;
 use link::{Link, Setup};
 use place::Standing;
 use script::{Command, Printed};
-use settings::{Fifths, Seconds, Tenths};
-use talk::{Bench, Ran, Shown};
-
-// Before the first start. No call is made on this unit.
-pub(crate) fn nothing_started() -> Bench
-    ensures { result ≡ nothing_started }
-{
-    let setup = Setup {
-        host: false,
-        t1: Tenths(0),
-        t2: Fifths(0),
-        t3: Seconds(0),
-        t4: Seconds(0),
-        rty: 0,
-        device: 0,
-        duplicates: 0,
-        last: 0,
-    };
-    let answer = unit::start(setup);
-    let link = answer.link;
-    Bench {
-        started: false,
-        link,
-    }
-}
+use talk::{Ran, Shown};
 
 // The first bytes of some; all, where there are no more.
 pub(crate) fn first(bytes: &[u8], count: usize) -> &[u8]
@@ -46,7 +22,7 @@ pub(crate) fn first(bytes: &[u8], count: usize) -> &[u8]
 }
 
 // `?`, and all is as it was.
-fn unreadable(bench: Bench) -> Shown
+fn unreadable(bench: Option<Link>) -> Shown
     ensures { result ≡ unread_shown bench }
 {
     Shown {
@@ -56,8 +32,8 @@ fn unreadable(bench: Bench) -> Shown
     }
 }
 
-// A refused start leaves the unit that there was.
-fn start(bench: Bench, setup: Setup) -> Shown
+// A refused start leaves the unit that there was, or none.
+fn start(bench: Option<Link>, setup: Setup) -> Shown
     ensures { result ≡ start_shown bench setup }
 {
     let answer = unit::start(setup);
@@ -65,12 +41,8 @@ fn start(bench: Bench, setup: Setup) -> Shown
     let number = unit::outcome_number(outcome);
     let printed = Printed::Answer { number, note: 20 };
     if number == 0 {
-        let link = answer.link;
         return Shown {
-            bench: Bench {
-                started: true,
-                link,
-            },
+            bench: Some(answer.link),
             printed,
             count: 0,
         };
@@ -86,12 +58,8 @@ fn start(bench: Bench, setup: Setup) -> Shown
 fn ran(ran: Ran) -> Shown
     ensures { result ≡ shown_ran ran }
 {
-    let link = ran.link;
     Shown {
-        bench: Bench {
-            started: true,
-            link,
-        },
+        bench: Some(ran.link),
         printed: Printed::Answer {
             number: ran.number,
             note: ran.note,
@@ -137,17 +105,7 @@ fn command(link: Link, command: Command, bytes: &[u8], room: &mut [u8], out: &mu
     ensures { done result room.new out.new ≡ command_done link command bytes.now room.old out.old }
 {
     match command {
-        Command::Unreadable => unreadable(Bench {
-            started: true,
-            link,
-        }),
-        Command::Start(setup) => start(
-            Bench {
-                started: true,
-                link,
-            },
-            setup,
-        ),
+        Command::Start(setup) => start(Some(link), setup),
         Command::Open { primary, length } => {
             let answer = unit::open(link, primary, first(bytes, length), room, out);
             ran(run::joined(0, answer))
@@ -182,18 +140,12 @@ fn command(link: Link, command: Command, bytes: &[u8], room: &mut [u8], out: &mu
             ran(run::joined(0, answer))
         }
         Command::Verdict(place) => Shown {
-            bench: Bench {
-                started: true,
-                link,
-            },
+            bench: Some(link),
             printed: verdict(link, place),
             count: 0,
         },
         Command::Dropped => Shown {
-            bench: Bench {
-                started: true,
-                link,
-            },
+            bench: Some(link),
             printed: Printed::Dropped {
                 count: unit::dropped(link),
             },
@@ -203,41 +155,26 @@ fn command(link: Link, command: Command, bytes: &[u8], room: &mut [u8], out: &mu
 }
 
 // A command before the first start: a start alone does anything.
-fn early(bench: Bench, command: Command) -> Shown
-    ensures { result ≡ early_shown bench command }
+fn early(command: Command) -> Shown
+    ensures { result ≡ early_shown command }
 {
     match command {
-        Command::Start(setup) => start(bench, setup),
-        Command::Unreadable => unreadable(bench),
-        Command::Open {
-            primary: _,
-            length: _,
-        } => unreadable(bench),
-        Command::Reply {
-            place: _,
-            function: _,
-            length: _,
-        } => unreadable(bench),
-        Command::ReleaseOwn(_) => unreadable(bench),
-        Command::ReleaseIncoming(_) => unreadable(bench),
-        Command::Bytes(_) => unreadable(bench),
-        Command::Ticks(_) => unreadable(bench),
-        Command::Drained => unreadable(bench),
-        Command::Verdict(_) => unreadable(bench),
-        Command::Dropped => unreadable(bench),
+        Command::Start(setup) => start(None, setup),
+        _ => unreadable(None),
     }
 }
 
 // Does what a line says.
-pub(crate) fn line(bench: Bench, line: &[u8], room: &mut [u8], out: &mut [u8]) -> Shown
+pub(crate) fn line(bench: Option<Link>, line: &[u8], room: &mut [u8], out: &mut [u8]) -> Shown
     requires { length out.old ≤ 4096 }
     ensures { done result room.new out.new ≡ line_done bench line.now room.old out.old }
 {
     let mut bytes = [0u8; 512];
-    let read = scribe::read_line(line, &mut bytes);
-    if bench.started {
-        let link = bench.link;
-        return command(link, read, &bytes, room, out);
+    let Some(read) = scribe::read_line(line, &mut bytes) else {
+        return unreadable(bench);
+    };
+    match bench {
+        Some(link) => command(link, read, &bytes, room, out),
+        None => early(read),
     }
-    early(bench, read)
 }

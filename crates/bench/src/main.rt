@@ -12,16 +12,16 @@ mod run;
 ghost use Rattle.std.specs.Prelude.{◌≤◌, length};
 
 use answer::first;
+use link::Link;
 use script::Printed;
 use std::io;
 use std::io::Read;
-use talk::Bench;
 
-// What is carried from one line to the next: the unit, how many bytes are kept of a line whose end has not come, and how many wait to
+// What is carried from one line to the next: the unit, if there is one yet, how many bytes are kept of a line whose end has not come, and how many wait to
 // be printed.
 #[derive(Clone, Copy)]
 struct Carried {
-    bench: Bench,
+    bench: Option<Link>,
     kept: usize,
     waiting: usize,
 }
@@ -178,7 +178,7 @@ fn take_input(
     requires { length out.old ≤ 4096 }
 {
     let mut now = Carried {
-        bench: answer::nothing_started(),
+        bench: None,
         kept: 0,
         waiting: 0,
     };

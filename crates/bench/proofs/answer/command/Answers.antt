@@ -7,9 +7,9 @@ use Rattle.link.specs.Call.{open_call, reply_call}
 use Rattle.link.specs.Run.{left}
 use Rattle.script.specs.declared.Printed.TheVariants as printed
 use Rattle.talk.specs.Run.{running, nothing_ran, bytes_run}
-use Rattle.talk.specs.Answer.{done, shown_as, bench_of}
+use Rattle.talk.specs.Answer.{done, shown_as}
 use Rattle.bench.proofs.Joining.{few, by_call, by_run}
-use mathlib.Core.Bool.{true}
+use Rattle.std.specs.Prelude.{Some}
 use Rattle.exchange.specs.Request as request
 use Rattle.link.specs.History as call
 use Rattle.bench.proofs.answer.command.Goals as goal
@@ -28,9 +28,6 @@ joined-requires-in-ReleaseIncoming c = (omega arith, few c.args.link c.args.room
 
 pub joined-requires-in-Drained : goal.joined-requires-in-Drained
 joined-requires-in-Drained c = (omega arith, few c.args.link c.args.room.now c.args.out.now call.drained _ c.drained-answer.ensures)
-
-pub returns-in-Unreadable : goal.returns-in-Unreadable
-returns-in-Unreadable c = simp c.in-Unreadable.is (ap (λ s. done s c.args.room.now c.args.out.now) c.unreadable.ensures)
 
 pub returns-in-Start : goal.returns-in-Start
 returns-in-Start c = simp c.in-Start.is (ap (λ s. done s c.args.room.now c.args.out.now) c.start.ensures)
@@ -57,7 +54,7 @@ pub returns-in-Drained : goal.returns-in-Drained
 returns-in-Drained c = simp c.in-Drained.is (by_call c.args.out.now _ _ _ _ _ _ c.ran-in-Drained.ensures c.joined-in-Drained.ensures c.drained-answer.ensures)
 
 pub returns-in-Verdict : goal.returns-in-Verdict
-returns-in-Verdict c = simp c.in-Verdict.is (ap (λ p. done (shown_as (bench_of true c.args.link) p 0) c.args.room.now c.args.out.now) c.verdict.ensures)
+returns-in-Verdict c = simp c.in-Verdict.is (ap (λ p. done (shown_as (Some c.args.link) p 0) c.args.room.now c.args.out.now) c.verdict.ensures)
 
 pub returns-in-Dropped : goal.returns-in-Dropped
-returns-in-Dropped c = simp c.in-Dropped.is (ap (λ n. done (shown_as (bench_of true c.args.link) (printed.Dropped n) 0) c.args.room.now c.args.out.now) c.dropped.ensures)
+returns-in-Dropped c = simp c.in-Dropped.is (ap (λ n. done (shown_as (Some c.args.link) (printed.Dropped n) 0) c.args.room.now c.args.out.now) c.dropped.ensures)
