@@ -3,17 +3,15 @@ ghost use Rattle.std.specs.Prelude.{◌≡◌, ◌≤◌};
 ghost use Rattle.text.specs.Number.{number_of, with_digit};
 
 // A number with one digit more. 100,001 stands for what is above every limit, and stays so.
+#[tactic(auto, unfolding(text::specs::Number::with_digit))]
 fn with_digit(value: u32, byte: u8) -> u32
     requires { value ≤ 100001 }
     ensures { result ≡ with_digit value byte }
 {
-    if byte < b'0' {
+    if byte < b'0' || b'9' < byte {
         return 100001;
     }
-    if b'9' < byte {
-        return 100001;
-    }
-    let more = value * 10 + (byte - b'0') as u32;
+    let more = value * 10 + u32::from(byte - b'0');
     if 100000 < more {
         return 100001;
     }

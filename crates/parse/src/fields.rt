@@ -7,14 +7,10 @@ ghost use Rattle.text.specs.Find.{index_of};
 fn find(text: &[u8], byte: u8) -> usize
     ensures { result ≡ index_of byte text.now }
 {
-    let mut i: usize = 0;
-    while i < text.len() {
-        if text[i] == byte {
-            return i;
-        }
-        i += 1;
+    match text.iter().position(|each| *each == byte) {
+        Some(at) => at,
+        None => text.len(),
     }
-    i
 }
 
 // The first field of a text: what stands before its first space, or all of it.

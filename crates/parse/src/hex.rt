@@ -4,28 +4,16 @@ ghost use Rattle.wire.specs.Lent.{filled, filled_with};
 ghost use Rattle.text.specs.Hex.{are_digits, byte_of, data_of, digit_of, is_data};
 
 // The value of a hex digit of either case, or 16.
+#[tactic(auto, unfolding(text::specs::Hex::digit_of))]
 fn digit(byte: u8) -> u8
     ensures { result ≡ digit_of byte }
 {
-    if byte < b'0' {
-        return 16;
+    match byte {
+        b'0'..=b'9' => byte - b'0',
+        b'A'..=b'F' => byte - b'A' + 10,
+        b'a'..=b'f' => byte - b'a' + 10,
+        _ => 16,
     }
-    if byte <= b'9' {
-        return byte - b'0';
-    }
-    if byte < b'A' {
-        return 16;
-    }
-    if byte <= b'F' {
-        return byte - b'A' + 10;
-    }
-    if byte < b'a' {
-        return 16;
-    }
-    if byte <= b'f' {
-        return byte - b'a' + 10;
-    }
-    16
 }
 
 fn are_digits(text: &[u8]) -> bool

@@ -23,54 +23,52 @@ ghost use Rattle.std.specs.Prelude.{◌≤◌, length, IfOk};
 use std::io;
 use std::io::Read;
 
-// What a piece of the input leaves.
+// The line whose end has not come: how many bytes of it are kept, or none if it is too long to be.
 #[derive(Clone, Copy)]
-enum Input {
-    // How many bytes of a line whose end has not come are kept. More may come.
-    Kept(usize),
-    // There was nothing more to read.
-    Ended,
+struct Line {
+    bytes: [u8; 1024],
+    kept: Option<usize>,
 }
 
-// Answers a whole line. One that did not fit is answered as one that can't be read.
-fn answer(rt: &impl Print, line: &[u8; 1024], kept: usize) -> io::Result<()> {
-    let all: &[u8] = line;
-    if kept <= all.len() {
-        run::answer(rt, &all[0..kept])?;
-    } else {
-        show::unreadable(rt)?;
+impl Line {
+    fn is_begun(&self) -> bool {
+        self.kept != Some(0)
     }
-    show::text(rt, b"\n")
-}
 
-// Takes one byte of the input, and gives back how many bytes of the line are kept. 1,025 stands for a line that is
-// too long: none of it beyond the 1,024th byte is kept.
-fn take(rt: &impl Print, line: &mut [u8; 1024], kept: usize, byte: u8) -> io::Result<usize> {
-    if byte == b'\n' {
-        answer(rt, line, kept)?;
-        return Ok(0);
+    // Answers the line. One that did not fit is answered as one that can't be read.
+    fn answer(&self, rt: &impl Print) -> io::Result<()> {
+        match self.text() {
+            Some(line) => run::answer(rt, line)?,
+            None => show::unreadable(rt)?,
+        }
+        print!(rt; "\n")
     }
-    if kept < 1024 {
-        line[kept] = byte;
-        return Ok(kept + 1);
-    }
-    Ok(1025)
-}
 
-// Takes each byte of a piece of the input.
-fn take_all(
-    rt: &impl Print,
-    line: &mut [u8; 1024],
-    kept: usize,
-    piece: &[u8],
-) -> io::Result<usize> {
-    let mut now_kept = kept;
-    let mut i: usize = 0;
-    while i < piece.len() {
-        now_kept = take(rt, line, now_kept, piece[i])?;
-        i += 1;
+    fn text(&self) -> Option<&[u8]> {
+        self.bytes.get(..self.kept?)
     }
-    Ok(now_kept)
+
+    // Takes one byte of the input, and answers the line where the byte ends it.
+    fn take(&mut self, rt: &impl Print, byte: u8) -> io::Result<()> {
+        if byte == b'\n' {
+            self.answer(rt)?;
+            self.kept = Some(0);
+        } else {
+            self.kept = self.keep(byte);
+        }
+        Ok(())
+    }
+
+    // Puts a byte behind those that are kept.
+    fn keep(&mut self, byte: u8) -> Option<usize> {
+        let at = self.kept?;
+        if at < self.bytes.len() {
+            self.bytes[at] = byte;
+            Some(at + 1)
+        } else {
+            None
+        }
+    }
 }
 
 // Reads until the piece is full or the input ends, and gives back how many bytes were put at the start of the piece.
@@ -88,43 +86,32 @@ fn read_full(input: &mut impl Read, piece: &mut [u8]) -> io::Result<usize>
     Ok(done)
 }
 
-// Reads a piece of the input, and answers the lines that end in it.
-fn take_piece(
-    rt: &impl Print,
-    input: &mut impl Read,
-    line: &mut [u8; 1024],
-    kept: usize,
-) -> io::Result<Input> {
-    let mut piece = [0u8; 65536];
-    let n = read_full(input, &mut piece)?;
-    if n == 0 {
-        return Ok(Input::Ended);
-    }
-    Ok(Input::Kept(take_all(rt, line, kept, &piece[..n])?))
-}
-
-// Reads the whole input, and gives back how many bytes of a last line without an end are kept. A loop has to end,
-// and nothing says that the input does, so the loop counts its turns down from a number that no run uses up.
-fn take_input(rt: &impl Print, input: &mut impl Read, line: &mut [u8; 1024]) -> io::Result<usize> {
-    let mut kept: usize = 0;
-    let mut turns = u64::MAX;
-    while turns > 0 {
-        match take_piece(rt, input, line, kept)? {
-            Input::Kept(n) => kept = n,
-            Input::Ended => return Ok(kept),
+// Reads the whole input, and answers the lines that end in it. A loop has to end, and nothing says that the input does, so the
+// loop counts to a number that no run comes to.
+fn take_input(rt: &impl Print, input: &mut impl Read, line: &mut Line) -> io::Result<()> {
+    let mut piece = [0; 65536];
+    for _ in 0..u64::MAX {
+        let n = read_full(input, &mut piece)?;
+        if n == 0 {
+            break;
         }
-        turns -= 1;
+        for byte in &piece[..n] {
+            line.take(rt, *byte)?;
+        }
     }
-    Ok(kept)
+    Ok(())
 }
 
 // The last line may lack its end.
 fn main(rt: HostRuntime) -> io::Result<()> {
-    let mut line = [0u8; 1024];
+    let mut line = Line {
+        bytes: [0; 1024],
+        kept: Some(0),
+    };
     let mut input = rt.stdin();
-    let kept = take_input(&rt, &mut input, &mut line)?;
-    if 0 < kept {
-        answer(&rt, &line, kept)?;
+    take_input(&rt, &mut input, &mut line)?;
+    if line.is_begun() {
+        line.answer(&rt)?;
     }
     Ok(())
 }

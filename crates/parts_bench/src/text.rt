@@ -1,287 +1,140 @@
 // Reading the fields of a line.
-ghost use Rattle.std.specs.Prelude.{◌≤◌, length};
+ghost use Rattle.std.specs.Prelude.{◌≤◌, IfSome};
 
-// What a field says: a number, or how many bytes were in it.
-#[derive(Clone, Copy)]
-pub(crate) enum Field {
-    Value(u16),
-    Unreadable,
-}
-
-// The first fields of a text, numbers, in their order, and where the last of them ends: at a mark, or at the end of the text.
-#[derive(Clone, Copy)]
-pub(crate) struct Numbers {
-    pub readable: bool,
-    pub values: [u16; 5],
-    pub end: usize,
-}
-
-// What a field says that names an end of the link.
-#[derive(Clone, Copy)]
+// The end of the link that a line is about.
+#[derive(Clone, Copy, PartialEq)]
 pub(crate) enum Role {
     Host,
     Equipment,
-    Unreadable,
 }
 
-// What a field of one byte says, or two hex digits.
-#[derive(Clone, Copy)]
-pub(crate) enum One {
-    Byte(u8),
-    Unreadable,
-}
-
-// Where the first `mark` from `start` on stands, or the text's length where there is none.
-pub(crate) fn mark_from(text: &[u8], mark: u8, start: usize) -> usize
-    requires { start ≤ length text.now }
-    ensures { (start ≤ result) × (result ≤ length text.now) }
-{
-    let mut i = start;
-    while i < text.len() {
-        if text[i] == mark {
-            return i;
-        }
-        i += 1;
+// The role at the front of a text, with a space behind it, and the text from that space on.
+pub(crate) fn front_role(text: &[u8]) -> Option<(Role, &[u8])> {
+    match text {
+        [b'H', b' ', ..] => Some((Role::Host, &text[1..])),
+        [b'E', b' ', ..] => Some((Role::Equipment, &text[1..])),
+        _ => None,
     }
-    i
 }
 
-// The first field of a text, of one byte, with a space behind it.
-pub(crate) fn front_byte(text: &[u8]) -> One {
-    if text.len() < 2 {
-        return One::Unreadable;
+// What stands before the first `mark`, or before the end where there is none, and what stands from there on.
+fn cut_at(text: &[u8], mark: u8) -> (&[u8], &[u8]) {
+    match text.iter().position(|byte| *byte == mark) {
+        Some(at) => text.split_at(at),
+        None => (text, &[]),
     }
-    if text[1] != b' ' {
-        return One::Unreadable;
-    }
-    One::Byte(text[0])
 }
 
-// The first field of a text, with a space behind it: the host or the equipment.
-pub(crate) fn front_role(text: &[u8]) -> Role {
-    match front_byte(text) {
-        One::Byte(role) => match role {
-            b'H' => Role::Host,
-            b'E' => Role::Equipment,
-            _ => Role::Unreadable,
-        },
-        One::Unreadable => Role::Unreadable,
+// What stands in a text behind the mark that it begins with. Where it is at its end it is nothing, as a field that is empty.
+pub(crate) fn behind(text: &[u8]) -> &[u8] {
+    match text {
+        [_, rest @ ..] => rest,
+        [] => text,
     }
 }
 
 // A number with one decimal digit more, as long as it is 65,535 at most.
-fn with_digit(value: u16, byte: u8) -> Field {
-    if byte < b'0' {
-        return Field::Unreadable;
+fn with_digit(value: u16, byte: u8) -> Option<u16> {
+    match byte {
+        b'0'..=b'9' => value.checked_mul(10)?.checked_add(u16::from(byte - b'0')),
+        _ => None,
     }
-    if b'9' < byte {
-        return Field::Unreadable;
-    }
-    let more = value as u32 * 10 + (byte - b'0') as u32;
-    if 65535 < more {
-        return Field::Unreadable;
-    }
-    Field::Value(more as u16)
 }
 
 // A text of decimal digits alone, at least one, that is 65,535 at most.
-pub(crate) fn decimal(text: &[u8]) -> Field {
-    if text.len() == 0 {
-        return Field::Unreadable;
+pub(crate) fn decimal(text: &[u8]) -> Option<u16> {
+    if text.is_empty() {
+        return None;
     }
-    let mut value: u16 = 0;
-    let mut i: usize = 0;
-    while i < text.len() {
-        match with_digit(value, text[i]) {
-            Field::Value(more) => value = more,
-            Field::Unreadable => return Field::Unreadable,
-        }
-        i += 1;
+    let mut value = 0;
+    for byte in text {
+        value = with_digit(value, *byte)?;
     }
-    Field::Value(value)
+    Some(value)
 }
 
-// Numbers that can't be read.
-fn no_numbers() -> Numbers {
-    Numbers {
-        readable: false,
-        values: [0; 5],
-        end: 0,
+// The numbers at the front of a text, so many of them, each with a mark before it, and what stands behind them: nothing, or a mark
+// and more.
+pub(crate) fn front_numbers<const N: usize>(text: &[u8], mark: u8) -> Option<([u16; N], &[u8])> {
+    let mut numbers = [0; N];
+    let mut rest = text;
+    for i in 0..N {
+        let (field, more) = cut_at(rest.strip_prefix(&[mark])?, mark);
+        numbers[i] = decimal(field)?;
+        rest = more;
     }
-}
-
-// The numbers at the front of a text, so many of them, each with a mark before it.
-pub(crate) fn front_numbers(text: &[u8], mark: u8, count: usize) -> Numbers
-    requires { count ≤ 5 }
-{
-    let mut values = [0u16; 5];
-    let mut end: usize = 0;
-    let mut i: usize = 0;
-    while i < count {
-        if text.len() <= end {
-            return no_numbers();
-        }
-        if text[end] != mark {
-            return no_numbers();
-        }
-        let start = end + 1;
-        end = mark_from(text, mark, start);
-        match decimal(&text[start..end]) {
-            Field::Value(value) => values[i] = value,
-            Field::Unreadable => return no_numbers(),
-        }
-        i += 1;
-    }
-    Numbers {
-        readable: true,
-        values,
-        end,
-    }
+    Some((numbers, rest))
 }
 
 // The same where nothing stands behind them.
-pub(crate) fn all_numbers(text: &[u8], mark: u8, count: usize) -> Numbers
-    requires { count ≤ 5 }
+pub(crate) fn all_numbers<const N: usize>(text: &[u8], mark: u8) -> Option<[u16; N]> {
+    let Some(front) = front_numbers(text, mark) else {
+        return None;
+    };
+    let (numbers, rest) = front;
+    if rest.is_empty() { Some(numbers) } else { None }
+}
+
+// The value of a hex digit.
+fn digit(byte: u8) -> Option<u8>
+    ensures { IfSome result (λ value. value ≤ 15) }
 {
-    let front = front_numbers(text, mark, count);
-    if front.end < text.len() {
-        return no_numbers();
-    }
-    front
-}
-
-// What stands in a text from index `at` on.
-pub(crate) fn from(text: &[u8], at: usize) -> &[u8] {
-    if at <= text.len() {
-        &text[at..]
-    } else {
-        &text[0..0]
-    }
-}
-
-// What stands in a text behind the mark at `end`. Where the text ends there it is nothing, as a field that is empty.
-pub(crate) fn behind(text: &[u8], end: usize) -> &[u8] {
-    if end < text.len() {
-        from(text, end + 1)
-    } else {
-        &text[0..0]
-    }
-}
-
-// The first `n` of the bytes that a field had.
-pub(crate) fn first(bytes: &[u8; 5000], n: u16) -> &[u8] {
-    let all: &[u8] = bytes;
-    let end = n as usize;
-    if end <= all.len() { &all[0..end] } else { all }
-}
-
-// The value of a hex digit, or 16 where the byte is none.
-fn digit(byte: u8) -> u8 {
     match byte {
-        b'0'..=b'9' => byte - b'0',
-        b'A'..=b'F' => byte - b'A' + 10,
-        b'a'..=b'f' => byte - b'a' + 10,
-        _ => 16,
+        b'0'..=b'9' => Some(byte - b'0'),
+        b'A'..=b'F' => Some(byte - b'A' + 10),
+        b'a'..=b'f' => Some(byte - b'a' + 10),
+        _ => None,
     }
 }
 
-// The byte of two hex digits.
-fn two_digits(first: u8, second: u8) -> One {
-    let high = digit(first);
-    let low = digit(second);
-    if 15 < high {
-        return One::Unreadable;
+// The byte of two hex digits. The last digit of an odd number of them has no second.
+fn two_digits(pair: &[u8]) -> Option<u8> {
+    match pair {
+        [high, low] => Some(digit(*high)? * 16 + digit(*low)?),
+        _ => None,
     }
-    if 15 < low {
-        return One::Unreadable;
-    }
-    One::Byte(high * 16 + low)
 }
 
-// The byte whose two hex digits stand from `at` on. The last digit of an odd number of them has no second.
-fn pair_at(text: &[u8], at: usize) -> One {
-    if text.len() <= at {
-        return One::Unreadable;
+// Puts the bytes of a text in hex at the start of `bytes`, and gives them back. No line is long enough to fill it.
+fn hex<'a>(text: &[u8], bytes: &'a mut [u8; 5000]) -> Option<&'a [u8]> {
+    for (byte, pair) in bytes.iter_mut().zip(text.chunks(2)) {
+        *byte = two_digits(pair)?;
     }
-    let next = at + 1;
-    if text.len() <= next {
-        return One::Unreadable;
-    }
-    two_digits(text[at], text[next])
-}
-
-// Puts the bytes of a text in hex at the start of `bytes`, and gives back how many there are.
-fn hex(text: &[u8], bytes: &mut [u8; 5000]) -> Field {
-    let mut n: u16 = 0;
-    while n < 5000 {
-        let at = n as usize * 2;
-        if text.len() <= at {
-            return Field::Value(n);
-        }
-        match pair_at(text, at) {
-            One::Byte(byte) => bytes[n as usize] = byte,
-            One::Unreadable => return Field::Unreadable,
-        }
-        n += 1;
-    }
-    // No line is long enough to come here.
-    Field::Unreadable
+    bytes.get(..text.len() / 2)
 }
 
 // The same for a field, which has at least one byte.
-pub(crate) fn some_bytes(text: &[u8], bytes: &mut [u8; 5000]) -> Field {
-    if text.len() == 0 {
-        return Field::Unreadable;
+pub(crate) fn some_bytes<'a>(text: &[u8], bytes: &'a mut [u8; 5000]) -> Option<&'a [u8]> {
+    if text.is_empty() {
+        None
+    } else {
+        hex(text, bytes)
     }
-    hex(text, bytes)
 }
 
 // The same for a field in which `-` may stand for no bytes.
-pub(crate) fn all_bytes(text: &[u8], bytes: &mut [u8; 5000]) -> Field {
-    if text.len() == 1 {
-        if text[0] == b'-' {
-            return Field::Value(0);
-        }
+pub(crate) fn all_bytes<'a>(text: &[u8], bytes: &'a mut [u8; 5000]) -> Option<&'a [u8]> {
+    match text {
+        [b'-'] => Some(&[]),
+        _ => some_bytes(text, bytes),
     }
-    some_bytes(text, bytes)
 }
 
 // The same for a field in which the last byte, with `x` and a count behind it, stands for so many bytes like it.
-pub(crate) fn repeated_bytes(text: &[u8], bytes: &mut [u8; 5000]) -> Field {
-    let end = mark_from(text, b'x', 0);
-    match all_bytes(&text[0..end], bytes) {
-        Field::Value(n) => {
-            if end < text.len() {
-                match decimal(from(text, end + 1)) {
-                    Field::Value(count) => repeat_last(bytes, n, count),
-                    Field::Unreadable => Field::Unreadable,
-                }
-            } else {
-                Field::Value(n)
-            }
-        }
-        Field::Unreadable => Field::Unreadable,
+pub(crate) fn repeated_bytes<'a>(text: &[u8], bytes: &'a mut [u8; 5000]) -> Option<&'a [u8]> {
+    let (front, rest) = cut_at(text, b'x');
+    if rest.is_empty() {
+        return all_bytes(front, bytes);
     }
+    let n = all_bytes(front, bytes)?.len();
+    repeat_last(bytes, n, usize::from(decimal(behind(rest))?))
 }
 
-// Puts the last of `n` bytes there so many times, as far as there is room, and gives back how many bytes there are then.
-fn repeat_last(bytes: &mut [u8; 5000], n: u16, count: u16) -> Field {
-    if n == 0 {
-        return Field::Unreadable;
-    }
-    let before = n - 1;
-    if 5000 < before as u32 + count as u32 {
-        return Field::Unreadable;
-    }
-    if count == 0 {
-        return Field::Value(before);
-    }
-    let last = bytes[before as usize];
-    let end = before + count;
-    let mut i = n;
-    while i < end {
-        bytes[i as usize] = last;
-        i += 1;
-    }
-    Field::Value(end)
+// Puts the last of the first `n` bytes there so many times, as far as there is room, and gives back all that are there then.
+fn repeat_last(bytes: &mut [u8; 5000], n: usize, count: usize) -> Option<&[u8]> {
+    let before = n.checked_sub(1)?;
+    let end = before.checked_add(count)?;
+    let last = *bytes.get(before)?;
+    bytes.get_mut(before..end)?.fill(last);
+    bytes.get(..end)
 }

@@ -17,7 +17,8 @@
 // `/failed`, or `/up=` and the N bytes of the block that came, or what was remarked, which is `/gave-way`, or `/` and the note of a
 // NAK. `-` stands where no call did.
 // CALLS that can't be read print `?`, and end the run. If ROLE or a setting can't be read, `?` is all.
-use crate::text::{Field, Role};
+use crate::show::Hex;
+use crate::text::Role;
 use crate::{show, text};
 use line::{Line, Out, Remark, Step, Told};
 use settings::{Fifths, Limits, Panel, Taken, Tenths};
@@ -30,70 +31,47 @@ struct Trial {
     shown: bool,
 }
 
-// What the calls of a field leave: the line, if the field could be read.
-#[derive(Clone, Copy)]
-enum Made {
-    Line(Line),
-    Unreadable,
-}
-
-// Takes ROLE off. The equipment is the master, the host the slave.
+// Takes ROLE and the settings off, and makes the calls, if each setting is in its range. The equipment is the master, the host the
+// slave. What is left begins with the space before the first CALLS: so an empty field differs from none.
 pub(crate) fn answer(rt: &impl Print, fields: &[u8]) -> io::Result<()> {
-    match text::front_role(fields) {
-        Role::Host => take_settings(rt, false, text::from(fields, 1)),
-        Role::Equipment => take_settings(rt, true, text::from(fields, 1)),
-        Role::Unreadable => show::unreadable(rt),
-    }
-}
-
-// Behind ROLE: takes T1, T2 and RTY off. What is left begins with the space before the first CALLS: so an empty field differs
-// from none.
-fn take_settings(rt: &impl Print, master: bool, fields: &[u8]) -> io::Result<()> {
-    let numbers = text::front_numbers(fields, b' ', 3);
-    let rty = numbers.values[2];
-    if !numbers.readable {
-        show::unreadable(rt)
-    } else if 255 < rty {
-        show::unreadable(rt)
-    } else {
-        take_panel(
-            rt,
-            Panel {
-                t1: Tenths(numbers.values[0]),
-                t2: Fifths(numbers.values[1]),
-                rty: rty as u8,
-                master,
-            },
-            text::from(fields, numbers.end),
-        )
-    }
-}
-
-// Makes the calls, if each setting is in its range.
-fn take_panel(rt: &impl Print, panel: Panel, calls: &[u8]) -> io::Result<()> {
+    let Some((panel, calls)) = read_panel(fields) else {
+        return show::unreadable(rt);
+    };
     match panel.limits() {
         Taken::Limits(limits) => {
-            show::text(rt, b"0")?;
+            print!(rt; "0")?;
             run(rt, limits, calls)
         }
-        Taken::OutOfRange => show::text(rt, b"4"),
+        Taken::OutOfRange => print!(rt; "4"),
     }
 }
 
-// Makes the calls of each field in turn, up to one that can't be read. `at` is where the space before it stands.
+// ROLE, T1, T2 and RTY, and what stands behind them.
+fn read_panel(fields: &[u8]) -> Option<(Panel, &[u8])> {
+    let (role, rest) = text::front_role(fields)?;
+    let ([t1, t2, rty], calls) = text::front_numbers::<3>(rest, b' ')?;
+    let panel = Panel {
+        t1: Tenths(t1),
+        t2: Fifths(t2),
+        rty: u8::try_from(rty).ok()?,
+        master: role == Role::Equipment,
+    };
+    Some((panel, calls))
+}
+
+// Makes the calls of each field in turn, up to one that can't be read. A space stands before each.
 fn run(rt: &impl Print, limits: Limits, calls: &[u8]) -> io::Result<()> {
-    let mut received = [0u8; 256];
+    let mut received = [0; 256];
     let mut line = Line::fresh();
-    let mut at: usize = 0;
-    while at < calls.len() {
-        let start = at + 1;
-        let end = text::mark_from(calls, b' ', start);
-        show::text(rt, b" ")?;
-        match run_field(rt, limits, line, &calls[start..end], &mut received)? {
-            Made::Line(next) => line = next,
-            Made::Unreadable => return show::unreadable(rt),
+    for field in calls.split(|byte| *byte == b' ').skip(1) {
+        print!(rt; " ")?;
+        let Some(trial) = run_field(rt, limits, line, field, &mut received)? else {
+            return show::unreadable(rt);
+        };
+        if !trial.shown {
+            print!(rt; "-")?;
         }
-        at = end;
+        line = trial.line;
     }
     Ok(())
 }
@@ -105,138 +83,77 @@ fn run_field(
     line: Line,
     field: &[u8],
     received: &mut [u8; 256],
-) -> io::Result<Made> {
-    if field.len() == 0 {
-        return Ok(Made::Unreadable);
-    }
-    let first = field[0];
-    if first == b'T' {
-        return run_ticks(rt, limits, line, &field[1..], received);
-    }
-    if field.len() == 1 {
-        return run_letter(rt, line, first, received);
-    }
-    run_hex(rt, limits, line, field, received)
-}
-
-// `A` or `D`.
-fn run_letter(rt: &impl Print, line: Line, letter: u8, received: &[u8; 256]) -> io::Result<Made> {
-    match letter {
-        b'A' => run_still(rt, line.ask(), received),
-        b'D' => run_still(rt, line.drained(), received),
-        _ => Ok(Made::Unreadable),
+) -> io::Result<Option<Trial>> {
+    let begun = Trial { line, shown: false };
+    match field {
+        [b'A'] => run_still(rt, begun, line.ask(), received),
+        [b'D'] => run_still(rt, begun, line.drained(), received),
+        [b'T', count @ ..] => run_ticks(rt, limits, begun, count, received),
+        _ => run_hex(rt, limits, begun, field, received),
     }
 }
 
 // A call that left the line so. By itself it puts nothing out, and tells and remarks nothing: what comes of it, settling does.
-fn run_still(rt: &impl Print, line: Line, received: &[u8; 256]) -> io::Result<Made> {
+fn run_still(
+    rt: &impl Print,
+    before: Trial,
+    line: Line,
+    received: &[u8; 256],
+) -> io::Result<Option<Trial>> {
     let step = Step {
         line,
         out: Out::Nothing,
         told: Told::Nothing,
         remark: Remark::Nothing,
     };
-    done(rt, settled(rt, begun(line), step, received)?)
-}
-
-// `T` and a number.
-fn run_ticks(
-    rt: &impl Print,
-    limits: Limits,
-    line: Line,
-    count: &[u8],
-    received: &[u8; 256],
-) -> io::Result<Made> {
-    match text::decimal(count) {
-        Field::Value(n) => done(rt, tick_on(rt, limits, begun(line), n, received)?),
-        Field::Unreadable => Ok(Made::Unreadable),
-    }
+    Ok(Some(settled(rt, before, step, received)?))
 }
 
 // So many ticks.
-fn tick_on(
+fn run_ticks(
     rt: &impl Print,
     limits: Limits,
-    before: Trial,
-    count: u16,
+    mut trial: Trial,
+    count: &[u8],
     received: &[u8; 256],
-) -> io::Result<Trial> {
-    let mut trial = before;
-    let mut i: u16 = 0;
-    while i < count {
-        let line = trial.line;
-        trial = settled(rt, trial, line.tick(limits), received)?;
-        i += 1;
+) -> io::Result<Option<Trial>> {
+    let Some(count) = text::decimal(count) else {
+        return Ok(None);
+    };
+    for _ in 0..count {
+        trial = settled(rt, trial, trial.line.tick(limits), received)?;
     }
-    Ok(trial)
-}
-
-// Bytes.
-fn run_hex(
-    rt: &impl Print,
-    limits: Limits,
-    line: Line,
-    field: &[u8],
-    received: &mut [u8; 256],
-) -> io::Result<Made> {
-    let mut bytes = [0u8; 5000];
-    match text::some_bytes(field, &mut bytes) {
-        Field::Value(n) => done(
-            rt,
-            hear(rt, limits, begun(line), text::first(&bytes, n), received)?,
-        ),
-        Field::Unreadable => Ok(Made::Unreadable),
-    }
+    Ok(Some(trial))
 }
 
 // Each of the bytes.
-fn hear(
+fn run_hex(
     rt: &impl Print,
     limits: Limits,
-    before: Trial,
-    bytes: &[u8],
+    mut trial: Trial,
+    field: &[u8],
     received: &mut [u8; 256],
-) -> io::Result<Trial> {
-    let mut trial = before;
-    let mut i: usize = 0;
-    while i < bytes.len() {
-        let line = trial.line;
-        let step = line.byte(limits, bytes[i], received);
+) -> io::Result<Option<Trial>> {
+    let mut buffer = [0; 5000];
+    let Some(bytes) = text::some_bytes(field, &mut buffer) else {
+        return Ok(None);
+    };
+    for byte in bytes {
+        let step = trial.line.byte(limits, *byte, received);
         trial = settled(rt, trial, step, received)?;
-        i += 1;
     }
-    Ok(trial)
-}
-
-// The line before the calls of a field.
-fn begun(line: Line) -> Trial {
-    Trial { line, shown: false }
-}
-
-// The line after the calls of a field.
-fn done(rt: &impl Print, trial: Trial) -> io::Result<Made> {
-    if !trial.shown {
-        show::text(rt, b"-")?;
-    }
-    let line = trial.line;
-    Ok(Made::Line(line))
+    Ok(Some(trial))
 }
 
 // The end of a call: the line settles, and what the call put out, told and remarked is shown.
 fn settled(rt: &impl Print, before: Trial, step: Step, received: &[u8; 256]) -> io::Result<Trial> {
-    let called = step.line;
-    let last = called.settle();
+    let last = step.line.settle();
     let line = last.line;
-    if still(step) {
-        if still(last) {
-            return Ok(Trial {
-                line,
-                shown: before.shown,
-            });
-        }
+    if is_still(step) && is_still(last) {
+        return Ok(Trial { line, ..before });
     }
     if before.shown {
-        show::text(rt, b",")?;
+        print!(rt; ",")?;
     }
     show_out(rt, step)?;
     show_out(rt, last)?;
@@ -248,71 +165,43 @@ fn settled(rt: &impl Print, before: Trial, step: Step, received: &[u8; 256]) -> 
 }
 
 // Whether a step put nothing out, and told and remarked nothing.
-fn still(step: Step) -> bool {
-    let out = step.out;
-    match out {
-        Out::Nothing => quiet(step),
-        _ => false,
-    }
-}
-
-// Whether a step told and remarked nothing.
-fn quiet(step: Step) -> bool {
-    let told = step.told;
-    let remark = step.remark;
-    match told {
-        Told::Nothing => match remark {
-            Remark::Nothing => true,
-            _ => false,
-        },
-        _ => false,
-    }
+fn is_still(step: Step) -> bool {
+    matches!(
+        step,
+        Step {
+            out: Out::Nothing,
+            told: Told::Nothing,
+            remark: Remark::Nothing,
+            ..
+        }
+    )
 }
 
 // What a step put out.
 fn show_out(rt: &impl Print, step: Step) -> io::Result<()> {
-    let out = step.out;
-    match out {
+    match step.out {
         Out::Nothing => Ok(()),
-        Out::Code(code) => show::byte(rt, code),
-        Out::Block => show::text(rt, b"*"),
+        Out::Code(code) => print!(rt; "{code:02X}"),
+        Out::Block => print!(rt; "*"),
     }
 }
 
-// What a step told.
+// What a step told. A block that came is its N bytes, which are the first N received.
 fn show_told(rt: &impl Print, step: Step, received: &[u8; 256]) -> io::Result<()> {
-    let told = step.told;
-    match told {
-        Told::Nothing => Ok(()),
-        Told::PutOut => Ok(()), // what it put out shows it
-        Told::Sent => show::text(rt, b"/sent"),
-        Told::Failed => show::text(rt, b"/failed"),
-        Told::Up(n) => show_block(rt, n, received),
+    match step.told {
+        // What it put out shows it.
+        Told::Nothing | Told::PutOut => Ok(()),
+        Told::Sent => print!(rt; "/sent"),
+        Told::Failed => print!(rt; "/failed"),
+        Told::Up(n) => print!(rt; "/up={}", Hex(&received[..usize::from(n)])),
     }
 }
 
-// What a step remarked.
+// What a step remarked: that it gave way, or the note of a NAK.
 fn show_remark(rt: &impl Print, step: Step) -> io::Result<()> {
-    let remark = step.remark;
-    match remark {
+    match step.remark {
         Remark::Nothing => Ok(()),
-        Remark::GaveWay => show::text(rt, b"/gave-way"),
-        Remark::NoLength => show_note(rt, remark),
-        Remark::Gap => show_note(rt, remark),
-        Remark::Bad(_) => show_note(rt, remark),
+        Remark::GaveWay => print!(rt; "/gave-way"),
+        Remark::NoLength | Remark::Gap | Remark::Bad(_) => { print!(rt; "/{}", step.remark.note()) }
     }
-}
-
-// A block that came: its N bytes, which are the first N received.
-fn show_block(rt: &impl Print, n: u8, received: &[u8; 256]) -> io::Result<()> {
-    let all: &[u8] = received;
-    let end = n as usize;
-    show::text(rt, b"/up=")?;
-    show::hex(rt, &all[0..end])
-}
-
-// The note of a NAK.
-fn show_note(rt: &impl Print, remark: Remark) -> io::Result<()> {
-    show::text(rt, b"/")?;
-    show::decimal(rt, remark.note() as usize)
 }

@@ -1,149 +1,116 @@
 // The loops. A turn is one call and the sum for the check value, and as little else as can be.
-use crate::ready;
-use link::Link;
-use std::num::{wrapping_add_u16, wrapping_add_u64};
+ghost use Rattle.std.specs.Prelude.{◌≤◌};
 
-// What a row of ticks leaves: the unit, and the sum so far.
+use crate::ready;
+use link::{Answer, Link};
+
+// What a row of calls leaves: the unit, and the sum for the check value.
 #[derive(Clone, Copy)]
-struct Ticked {
+struct Row {
     link: Link,
     sum: u64,
 }
 
-// The sum for the check value, after a turn.
-fn plus(sum: u64, count: usize, block: u16) -> u64 {
-    wrapping_add_u64(sum, wrapping_add_u64(count as u64, block as u64))
+// What a turn adds to the sum.
+fn counted(answer: &Answer) -> u64 {
+    (answer.count as u64).wrapping_add(u64::from(answer.link.block))
+}
+
+// So many turns. Each makes a call, leaves the next state of the unit in its place, and gives back what it adds to the sum: an answer
+// handed on whole would be one copy more of the unit.
+fn repeat<F: FnMut(&mut Link) -> u64>(turns: u64, mut link: Link, mut turn: F) -> Row
+    requires { F.IsAlwaysCallable turn }
+{
+    let mut sum: u64 = 0;
+    for _ in 0..turns {
+        sum = sum.wrapping_add(turn(&mut link));
+    }
+    Row { link, sum }
 }
 
 // The bytes of a block on the line, ENQ before them: length 254, and all others 0, so that the sum is 0 too.
 fn block_byte(at: u64) -> u8 {
-    if at == 0 {
-        return 5;
+    match at {
+        0 => 5,
+        1 => 254,
+        _ => 0,
     }
-    if at == 1 {
-        return 254;
-    }
-    0
 }
 
 // ENQ, the length byte, 254 bytes and two of the sum are 258.
 fn following(at: u64) -> u64 {
-    if at < 257 {
-        return at + 1;
-    }
-    0
+    if at < 257 { at + 1 } else { 0 }
 }
 
 // So many bytes of blocks.
-fn blocks(turns: u64, room: &mut [u8; 36864], out: &mut [u8; 257]) -> u64 {
-    let mut link = ready::fresh();
-    let mut sum: u64 = 0;
-    let mut at: u64 = 0;
-    let mut i: u64 = 0;
-    while i < turns {
-        let answer = unit::byte(link, block_byte(at), room, out);
-        sum = plus(sum, answer.count, answer.link.block);
-        link = answer.link;
-        at = following(at);
-        i += 1;
-    }
-    sum
-}
-
 pub(crate) fn body(turns: u64) -> u64 {
-    let mut room = [0u8; 36864];
-    let mut out = [0u8; 257];
-    blocks(turns, &mut room, &mut out)
+    let mut room = [0; 36864];
+    let mut out = [0; 257];
+    let mut at = 0;
+    repeat(turns, ready::fresh(), |link| {
+        let answer = unit::byte(*link, block_byte(at), &mut room, &mut out);
+        at = following(at);
+        *link = answer.link;
+        counted(&answer)
+    })
+    .sum
 }
 
 // So many bytes that an idle line drops.
-fn others(turns: u64, room: &mut [u8; 36864], out: &mut [u8; 257]) -> u64 {
-    let mut link = ready::fresh();
-    let mut sum: u64 = 0;
-    let mut i: u64 = 0;
-    while i < turns {
-        let answer = unit::byte(link, 7, room, out);
-        sum = plus(sum, answer.count, answer.link.block);
-        link = answer.link;
-        i += 1;
-    }
-    sum
+pub(crate) fn dropped(turns: u64) -> u64 {
+    let mut room = [0; 36864];
+    let mut out = [0; 257];
+    repeat(turns, ready::fresh(), |link| {
+        let answer = unit::byte(*link, 7, &mut room, &mut out);
+        *link = answer.link;
+        counted(&answer)
+    })
+    .sum
 }
 
-pub(crate) fn dropped(turns: u64) -> u64 {
-    let mut room = [0u8; 36864];
-    let mut out = [0u8; 257];
-    others(turns, &mut room, &mut out)
+// So many ticks.
+fn ticks(turns: u64, link: Link, room: &mut [u8; 36864], out: &mut [u8; 257]) -> Row {
+    repeat(turns, link, |link| {
+        let answer = unit::tick(*link, room, out);
+        *link = answer.link;
+        counted(&answer)
+    })
 }
 
 // So many ticks with nothing due.
-fn still(turns: u64, room: &mut [u8; 36864], out: &mut [u8; 257]) -> u64 {
-    let mut link = ready::fresh();
-    let mut sum: u64 = 0;
-    let mut i: u64 = 0;
-    while i < turns {
-        let answer = unit::tick(link, room, out);
-        sum = plus(sum, answer.count, answer.link.block);
-        link = answer.link;
-        i += 1;
-    }
-    sum
-}
-
 pub(crate) fn idle(turns: u64) -> u64 {
-    let mut room = [0u8; 36864];
-    let mut out = [0u8; 257];
-    still(turns, &mut room, &mut out)
+    ticks(turns, ready::fresh(), &mut [0; 36864], &mut [0; 257]).sum
 }
 
-// So many ticks of a unit that waits.
-fn ticks(
-    unit: Link,
-    before: u64,
-    turns: u64,
-    room: &mut [u8; 36864],
-    out: &mut [u8; 257],
-) -> Ticked {
-    let mut link = unit;
-    let mut sum = before;
-    let mut i: u64 = 0;
-    while i < turns {
-        let answer = unit::tick(link, room, out);
-        sum = plus(sum, answer.count, answer.link.block);
-        link = answer.link;
-        i += 1;
-    }
-    Ticked { link, sum }
-}
-
-// The unit starts anew every 1,000 ticks, so that no timer runs out.
+// So many ticks of a unit that waits. It starts anew every 1,000 ticks, so that no timer runs out.
 pub(crate) fn waiting(turns: u64) -> u64 {
-    let mut room = [0u8; 36864];
-    let mut out = [0u8; 257];
+    let mut room = [0; 36864];
+    let mut out = [0; 257];
     let link = ready::waiting(&mut room, &mut out);
     let mut sum: u64 = 0;
-    let mut left = turns;
-    while 1000 <= left {
-        let done = ticks(link, sum, 1000, &mut room, &mut out);
-        sum = done.sum;
-        left -= 1000;
+    for _ in 0..turns / 1000 {
+        sum = sum.wrapping_add(ticks(1000, link, &mut room, &mut out).sum);
     }
-    let done = ticks(link, sum, left, &mut room, &mut out);
-    wrapping_add_u64(done.sum, ready::timers(done.link))
+    let last = ticks(turns % 1000, link, &mut room, &mut out);
+    sum.wrapping_add(last.sum)
+        .wrapping_add(ready::timers(last.link))
+}
+
+// Which of two units is copied in a turn, to the other.
+fn copied(turn: u64) -> usize
+    ensures { result ≤ 1 }
+{
+    if turn % 2 == 0 { 0 } else { 1 }
 }
 
 // One copy in each turn, from one of two units to the other. `block` is counted on in each, so that none can be left out.
 pub(crate) fn copies(turns: u64) -> u64 {
-    let link = ready::fresh();
-    let mut ring = [link; 2];
-    let mut at: usize = 0;
-    let mut i: u64 = 0;
-    while i < turns {
+    let mut ring = [ready::fresh(); 2];
+    for turn in 0..turns {
+        let at = copied(turn);
         let next = 1 - at;
         ring[next] = ring[at];
-        ring[next].block = wrapping_add_u16(ring[next].block, 1);
-        at = next;
-        i += 1;
+        ring[next].block = ring[next].block.wrapping_add(1);
     }
-    plus(0, 0, ring[at].block)
+    u64::from(ring[copied(turns)].block)
 }

@@ -18,54 +18,41 @@ mod loops;
 mod ready;
 mod text;
 
-ghost use Rattle.std.specs.Prelude.{◌≤◌, length};
-
 use std::io;
 use std::rt::Env;
-use text::Turns;
 
 // A program has no more to say of a word that it can't read.
 fn unreadable(rt: &impl Print) -> io::Result<()> {
-    rt.write_all(b"?")
+    print!(rt; "?")
 }
 
 fn run(rt: &impl Print, word: &[u8], turns: u64) -> io::Result<()> {
-    if text::is_same(word, b"body") {
-        return rt.print(loops::body(turns));
-    }
-    if text::is_same(word, b"dropped") {
-        return rt.print(loops::dropped(turns));
-    }
-    if text::is_same(word, b"idle") {
-        return rt.print(loops::idle(turns));
-    }
-    if text::is_same(word, b"waiting") {
-        return rt.print(loops::waiting(turns));
-    }
-    if text::is_same(word, b"copy") {
-        return rt.print(loops::copies(turns));
-    }
-    unreadable(rt)
+    let check = match word {
+        b"body" => loops::body(turns),
+        b"dropped" => loops::dropped(turns),
+        b"idle" => loops::idle(turns),
+        b"waiting" => loops::waiting(turns),
+        b"copy" => loops::copies(turns),
+        _ => return unreadable(rt),
+    };
+    print!(rt; "{check}")
 }
 
-// Copies an argument to the start of `word`, and gives back its length. One that is missing or too long is none: 0.
-fn argument(rt: &impl Env, at: usize, word: &mut [u8]) -> usize
-    ensures { result ≤ length word.new }
-{
+// Copies an argument to the start of `word`, and gives it back. One that is missing or too long is empty.
+fn argument<'a>(rt: &impl Env, at: usize, word: &'a mut [u8]) -> &'a [u8] {
     match rt.arg(at, word) {
-        Ok(length) => length,
-        Err(_) => 0,
+        Ok(length) => &word[..length],
+        Err(_) => &[],
     }
 }
 
 fn main(rt: HostRuntime) -> io::Result<()> {
-    let mut word = [0u8; 16];
-    let mut digits = [0u8; 16];
-    let length = argument(&rt, 1, &mut word);
-    let count = argument(&rt, 2, &mut digits);
-    match text::decimal(&digits[..count]) {
-        Turns::Count(turns) => run(&rt, &word[..length], turns)?,
-        Turns::Unreadable => unreadable(&rt)?,
+    let mut word = [0; 16];
+    let mut digits = [0; 16];
+    let word = argument(&rt, 1, &mut word);
+    match text::decimal(argument(&rt, 2, &mut digits)) {
+        Some(turns) => run(&rt, word, turns)?,
+        None => unreadable(&rt)?,
     }
-    rt.write_all(b"\n")
+    print!(rt; "\n")
 }

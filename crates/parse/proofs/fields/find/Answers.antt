@@ -1,26 +1,21 @@
--- `find` meets its contract.
-use native.Mathlib.Omega.{arith}
-use borrow.Author.Tests.{eq-eqb, ne_eqb}
-use Rattle.text.specs.Find.{index_after}
-use Rattle.parse.proofs.Finding.{index_on, index_end}
+-- `find` meets its contract: what `position` finds is the first such byte.
+use Rattle.std.proofs.Common.{rules, ◌≡◌, ◌≢◌, ℕ, refl, sym, None, Some}
+use borrow.Author.Tests.{tests}
+use Rattle.std.proofs.lemmas.Iterator.{YieldsList-from_slice, IsFirst-from_position, index_from_first}
+use Rattle.text.specs.Find.{index_of}
+use Rattle.parse.proofs.Finding.{index_here, index_past}
 use Rattle.parse.proofs.fields.find.Goals as goal
 
-pub loop-i-init : goal.loop-i-init
-loop-i-init c = (omega arith, omega arith)
+pub returns-in-Some : goal.returns-in-Some
+unfolding index_of
+returns-in-Some c =
+    sym (index_from_first (index_of c.args.byte) (λ (x : ℕ). x ≡ c.args.byte) (λ (x : ℕ). x ≢ c.args.byte) refl
+    (index_here c.args.byte) (index_past c.args.byte) c.args.text.now (Some c.in-Some.at)
+    (IsFirst-from_position _ _ _ (λ (x : ℕ). x ≡ c.args.byte) (λ (x : ℕ). x ≢ c.args.byte) c.in-Some.ensures.ran (YieldsList-from_slice c.args.text.now cc) (λ x q k. search (rules, tests)) (λ x q k. search (rules, tests))))
 
-pub returns-then-text-i : goal.returns-then-text-i
-unfolding index_after
-returns-then-text-i c =
-    let on = index_on c.args.byte c.args.text.now c.loop-i.i c.loop-i-test.true in
-    let here = simp (eq-eqb _ _ c.if-text-i.true) at on in
-    omega (arith, here, c.loop-i.invariant.1)
-
-pub loop-i-preserved : goal.loop-i-preserved
-unfolding index_after
-loop-i-preserved c =
-    let on = index_on c.args.byte c.args.text.now c.loop-i.i c.loop-i-test.true in
-    let next = simp (ne_eqb _ _ c.if-text-i.false) at on in
-    (omega arith, omega (arith, next, c.loop-i.invariant.1))
-
-pub returns : goal.returns
-returns c = omega (arith, index_end c.args.byte c.args.text.now c.loop-i.i c.loop-i-test.false, c.loop-i.invariant.1)
+pub returns-in-None : goal.returns-in-None
+unfolding index_of
+returns-in-None c =
+    sym (index_from_first (index_of c.args.byte) (λ (x : ℕ). x ≡ c.args.byte) (λ (x : ℕ). x ≢ c.args.byte) refl
+    (index_here c.args.byte) (index_past c.args.byte) c.args.text.now None
+    (IsFirst-from_position _ _ _ (λ (x : ℕ). x ≡ c.args.byte) (λ (x : ℕ). x ≢ c.args.byte) c.in-None.ensures.ran (YieldsList-from_slice c.args.text.now cc) (λ x q k. search (rules, tests)) (λ x q k. search (rules, tests))))
