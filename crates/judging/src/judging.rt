@@ -76,6 +76,7 @@ fn thrown(exchange: Exchange, note: Note) -> Judged
 }
 
 // A block of the reply in an own place.
+#[tactic(auto, unfolding(exchange::specs::Judge::reply_block))]
 fn reply_block(
     exchange: Exchange,
     place: usize,
@@ -98,6 +99,7 @@ fn reply_block(
 }
 
 // A further block of the message in an incoming place.
+#[tactic(auto, unfolding(exchange::specs::Judge::message_block))]
 fn message_block(
     exchange: Exchange,
     place: usize,
@@ -120,6 +122,7 @@ fn message_block(
 }
 
 // A primary begins in an incoming place; `gone` says whether it throws an open message out.
+#[tactic(auto, unfolding(exchange::specs::Judge::begins_at))]
 fn begins_at(
     exchange: Exchange,
     place: usize,
@@ -141,6 +144,7 @@ fn begins_at(
 }
 
 // Rule 6.
+#[tactic(auto, unfolding(exchange::specs::Judge::takes_place, exchange::specs::Judge::thrown))]
 fn takes_place(
     exchange: Exchange,
     header: Header,
@@ -160,6 +164,7 @@ fn takes_place(
 }
 
 // The first block of a primary: rules 4 and 5, then 6 and 7.
+#[tactic(auto, unfolding(exchange::specs::Judge::primary_block, exchange::specs::Judge::thrown))]
 fn primary_block(exchange: Exchange, header: Header, data: &[u8], room: &mut [u8]) -> Judged
     ensures { judging result room.new ≡ primary_block exchange header «data».now room.old }
 {
@@ -172,6 +177,7 @@ fn primary_block(exchange: Exchange, header: Header, data: &[u8], room: &mut [u8
 }
 
 // Rule 3 for a block of no reply: "If it is neither, it must begin a primary".
+#[tactic(auto, unfolding(exchange::specs::Judge::no_reply_block, exchange::specs::Judge::thrown, exchange::specs::Judge::or_primary))]
 fn no_reply_block(exchange: Exchange, header: Header, data: &[u8], room: &mut [u8]) -> Judged
     ensures { judging result room.new ≡ no_reply_block exchange header «data».now room.old }
 {
@@ -188,6 +194,7 @@ fn no_reply_block(exchange: Exchange, header: Header, data: &[u8], room: &mut [u
 }
 
 // Rule 3, for a block that is neither misrouted nor a duplicate.
+#[tactic(auto, unfolding(exchange::specs::Judge::new_block))]
 fn new_block(exchange: Exchange, header: Header, data: &[u8], room: &mut [u8]) -> Judged
     ensures { judging result room.new ≡ new_block exchange header «data».now room.old }
 {
@@ -198,6 +205,7 @@ fn new_block(exchange: Exchange, header: Header, data: &[u8], room: &mut [u8]) -
 }
 
 // The seven rules in their order, for a block with these ten header bytes and this data.
+#[tactic(auto, unfolding(exchange::specs::Judge::rules_of, exchange::specs::Judge::thrown))]
 fn rules(exchange: Exchange, terms: Terms, header: [u8; 10], data: &[u8], room: &mut [u8]) -> Judged
     ensures { judging result room.new ≡ rules_of terms exchange header «data».now room.old }
 {
