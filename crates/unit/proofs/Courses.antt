@@ -3,6 +3,7 @@ use Prim.Native.Nat.{ℕ, ◌-◌, ◌<◌}
 use mathlib.Core.Path.{◌≡◌, refl, sym, ap, ◌∙◌}
 use mathlib.Core.Bool.{Bool, true, false, false≢true}
 use mathlib.Core.List.{List, []}
+use mathlib.Core.Logic.{◌⊎◌, inl, inr}
 use native.Mathlib.Omega.{arith}
 use lib.ListN.{length, take, drop}
 use borrow.Author.Tests.{eq-eqb}
@@ -93,11 +94,9 @@ pub step_on : (ticks : Bool) (u : Link) (room o : List ℕ) {s t : Step} {x : Le
 step_on ticks u room o e p = p ∙ ap (λ (s : Step). stepped ticks u (heard s u.received) room o) e
 
 -- a byte that puts no block out, and one that does
-pub on_nothing : (p : Out) (block l : Left) {x : Left} → p ≡ out.Nothing → x ≡ l → x ≡ unless_block p block l
-on_nothing p block l e q = q ∙ sym (ap (λ (z : Out). unless_block z block l) e)
-
-pub on_code : (p : Out) (block l : Left) (c : ℕ) {x : Left} → p ≡ out.Code c → x ≡ l → x ≡ unless_block p block l
-on_code p block l c e q = q ∙ sym (ap (λ (z : Out). unless_block z block l) e)
+pub on_no_block : (p : Out) (block l : Left) {x : Left} → (p ≡ out.Nothing) ⊎ ((c : ℕ) × p ≡ out.Code c) → x ≡ l → x ≡ unless_block p block l
+on_no_block p block l (inl e) q = q ∙ sym (ap (λ (z : Out). unless_block z block l) e)
+on_no_block p block l (inr e) q = q ∙ sym (ap (λ (z : Out). unless_block z block l) e.1)
 
 pub on_block : (p : Out) (block l : Left) {x : Left} → p ≡ out.Block → x ≡ block → x ≡ unless_block p block l
 on_block p block l e q = q ∙ sym (ap (λ (z : Out). unless_block z block l) e)

@@ -20,12 +20,11 @@ fn put_code(out: &mut [u8], at: usize, code: Out) -> usize
     ensures { (result ≡ length (bytes_out [] code)) × (out.new ≡ put_at out.old at code) }
 {
     match code {
-        Out::Nothing => 0,
         Out::Code(c) => {
             out[at] = c;
             1
         }
-        Out::Block => 0,
+        Out::Nothing | Out::Block => 0,
     }
 }
 
@@ -62,7 +61,7 @@ fn report_header(device: u16, function: u8, number: u16) -> Header
         function,
         e: true,
         number: 1,
-        system: number as u32,
+        system: u32::from(number),
     }
 }
 
@@ -92,7 +91,7 @@ pub(crate) fn put_message(
     match message {
         Outgoing::Nothing => 0,
         Outgoing::Message { header, length } => {
-            match cut::cut_block(header, length as usize, k as usize) {
+            match cut::cut_block(header, usize::from(length), usize::from(k)) {
                 Cut::Block {
                     header,
                     start,

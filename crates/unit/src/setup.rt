@@ -10,11 +10,9 @@ fn panel(setup: Setup) -> Panel
     requires { setup.rty ≤ 31 }
     ensures { result ≡ panel_of setup }
 {
-    let t1 = setup.t1;
-    let t2 = setup.t2;
     Panel {
-        t1,
-        t2,
+        t1: setup.t1,
+        t2: setup.t2,
         rty: setup.rty as u8,
         master: !setup.host,
     }
@@ -23,11 +21,9 @@ fn panel(setup: Setup) -> Panel
 fn messages(setup: Setup) -> MessagePanel
     ensures { result ≡ messages_of setup }
 {
-    let t3 = setup.t3;
-    let t4 = setup.t4;
     MessagePanel {
-        t3,
-        t4,
+        t3: setup.t3,
+        t4: setup.t4,
         device: setup.device,
         duplicates: setup.duplicates,
         host: setup.host,
@@ -44,6 +40,7 @@ fn agreed(setup: Setup, limits: Limits) -> Ranged
 }
 
 // Refusal 4: "setting out of range".
+#[tactic(auto, unfolding(link::specs::Setup::ranged_of))]
 pub(crate) fn ranged(setup: Setup) -> Ranged
     ensures { result ≡ ranged_of setup }
 {
@@ -60,27 +57,26 @@ pub(crate) fn ranged(setup: Setup) -> Ranged
 pub(crate) fn no_settings() -> Settings
     ensures { result ≡ no_settings }
 {
-    let limits = Limits {
-        t1: Tenths(0).ticks(),
-        t2: Fifths(0).ticks(),
-        rty: 0,
-        master: false,
-    };
-    let terms = Terms {
-        t3: Seconds(0).ticks(),
-        t4: Seconds(0).ticks(),
-        device: 0,
-        duplicates: false,
-        host: false,
-    };
-    Settings { limits, terms }
+    Settings {
+        limits: Limits {
+            t1: Tenths(0).ticks(),
+            t2: Fifths(0).ticks(),
+            rty: 0,
+            master: false,
+        },
+        terms: Terms {
+            t3: Seconds(0).ticks(),
+            t4: Seconds(0).ticks(),
+            device: 0,
+            duplicates: false,
+            host: false,
+        },
+    }
 }
 
+#[tactic(auto, unfolding(link::specs::Setup::settings_in_range))]
 pub(crate) fn settings_in_range(settings: Settings) -> bool
     ensures { result ≡ settings_in_range settings }
 {
-    if settings.limits.in_range() {
-        return settings.terms.in_range();
-    }
-    false
+    settings.limits.in_range() && settings.terms.in_range()
 }

@@ -21,8 +21,8 @@ returns-then-is_still c =
 pub onward-requires : goal.onward-requires
 onward-requires c = let p = past c.args.link _ _ (c.admits.ensures ∙ by_parts c.args.link _ _) c.in-Open.is in (p.output, p.block)
 
-pub returns-after-is_quiet : goal.returns-after-is_quiet
-returns-after-is_quiet c =
+pub returns-else-is_quiet : goal.returns-else-is_quiet
+returns-else-is_quiet c =
     opens c.args.link c.args.room.now c.args.out.now _ (c.admits.ensures ∙ by_parts c.args.link _ _) c.in-Open.is
     (step_on true c.args.link c.args.room.now c.args.out.now c.tick-step.ensures c.onward.ensures)
 

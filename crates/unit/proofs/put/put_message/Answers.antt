@@ -13,10 +13,10 @@ pub returns-in-Nothing : goal.returns-in-Nothing
 returns-in-Nothing c = simp c.in-Nothing.is (refl, no_code _)
 
 pub returns-in-Block : goal.returns-in-Block
-returns-in-Block c = let a = c.args in rw (cut_from a.device a.shown a.message _ _ a.k a.room.now c.in-Message.is c.cut_block.ensures) (simp c.in-Block.is (rw c.bytes_of.ensures at c.put_block.ensures))
+returns-in-Block c = let a = c.args in rw (cut_from a.device a.shown a.message _ _ a.k a.room.now c.in-Message.is (rw (c.from.ensures, c.from-in-Message.ensures) at c.cut_block.ensures)) (simp c.in-Block.is (rw c.bytes_of.ensures at c.put_block.ensures))
 
 pub returns-in-NoBlock : goal.returns-in-NoBlock
-returns-in-NoBlock c = let a = c.args in rw (cut_from a.device a.shown a.message _ _ a.k a.room.now c.in-Message.is c.cut_block.ensures) (simp c.in-NoBlock.is (refl, no_code _))
+returns-in-NoBlock c = let a = c.args in rw (cut_from a.device a.shown a.message _ _ a.k a.room.now c.in-Message.is (rw (c.from.ensures, c.from-in-Message.ensures) at c.cut_block.ensures)) (simp c.in-NoBlock.is (refl, no_code _))
 
 pub returns-in-Report : goal.returns-in-Report
 returns-in-Report c = simp c.in-Report.is c.put_report.ensures
