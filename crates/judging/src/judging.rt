@@ -15,7 +15,6 @@ use reports::Report;
 use room::Message;
 use seek::{free_incoming, message_for, open_alike, reply_for};
 use settings::Terms;
-use table::Found;
 
 // Rule 1: "R-bit or device ID not this link's incoming one". R = 1 means to the host.
 #[tactic(auto, unfolding(exchange::specs::Judge::is_misrouted))]
@@ -61,7 +60,10 @@ fn keep_by(fate: Fate, room: &mut [u8], message: Message, have: u16, data: &[u8]
 fn is_duplicate(exchange: Exchange, terms: Terms, header: [u8; 10]) -> bool
     ensures { result ≡ is_duplicate terms exchange header }
 {
-    terms.duplicates && exchange.saved.any && same_bytes(exchange.saved.header, header)
+    match exchange.saved {
+        Some(saved) => terms.duplicates && same_bytes(saved, header),
+        None => false,
+    }
 }
 
 // The block is thrown out, with a note that says why.
@@ -155,10 +157,10 @@ fn takes_place(
     ensures { judging result room.new ≡ takes_place exchange header last «data».now room.old }
 {
     match open_alike(exchange.incoming, header) {
-        Found::At(place) => begins_at(exchange, place, header, true, last, data, room),
-        Found::Nowhere => match free_incoming(exchange.incoming) {
-            Found::At(place) => begins_at(exchange, place, header, false, last, data, room),
-            Found::Nowhere => thrown(exchange, Note::NoPlace),
+        Some(place) => begins_at(exchange, place, header, true, last, data, room),
+        None => match free_incoming(exchange.incoming) {
+            Some(place) => begins_at(exchange, place, header, false, last, data, room),
+            None => thrown(exchange, Note::NoPlace),
         },
     }
 }
@@ -182,8 +184,8 @@ fn no_reply_block(exchange: Exchange, header: Header, data: &[u8], room: &mut [u
     ensures { judging result room.new ≡ no_reply_block exchange header «data».now room.old }
 {
     match message_for(exchange.incoming, header) {
-        Found::At(place) => message_block(exchange, place, header, data, room),
-        Found::Nowhere => {
+        Some(place) => message_block(exchange, place, header, data, room),
+        None => {
             if begins_primary(header) {
                 primary_block(exchange, header, data, room)
             } else {
@@ -199,8 +201,8 @@ fn new_block(exchange: Exchange, header: Header, data: &[u8], room: &mut [u8]) -
     ensures { judging result room.new ≡ new_block exchange header «data».now room.old }
 {
     match reply_for(exchange.own, header) {
-        Found::At(place) => reply_block(exchange, place, header, data, room),
-        Found::Nowhere => no_reply_block(exchange, header, data, room),
+        Some(place) => reply_block(exchange, place, header, data, room),
+        None => no_reply_block(exchange, header, data, room),
     }
 }
 
