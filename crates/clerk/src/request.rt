@@ -4,28 +4,20 @@ ghost use Rattle.wire.specs.Message.{message_limit};
 ghost use Rattle.exchange.specs.Request.{requesting, bad_function, bad_primary, claimed_at, data_long, is_sending, not_ready, open_free, open_of, primary_header, refusal_number, refused_by, release_incoming, release_own, reply_accepted, reply_of, reply_ready};
 
 use desk::{incoming_place, own_place, put_incoming, put_own, with_sending};
-use exchange::{Asked, Exchange, Numbers, Primary, Refusal, Requested, Sending};
+use exchange::{Exchange, Numbers, Primary, Refusal, Requested, Sending};
 use header::Header;
 use life::{incoming, own};
 use place::Incoming;
 use room::Message;
 use seek::{free_own, next_number, own_put};
 use settings::Terms;
-use table::Found;
 use wire::MESSAGE_LIMIT;
 
+// The refusal's number in 01's table.
 pub fn refusal_number(refusal: Refusal) -> u8
     ensures { result ≡ refusal_number refusal }
 {
-    match refusal {
-        Refusal::Message => 5,
-        Refusal::DataLong => 6,
-        Refusal::Sending => 7,
-        Refusal::NoPlace => 8,
-        Refusal::Place => 9,
-        Refusal::NotWanted => 10,
-        Refusal::Replied => 11,
-    }
+    refusal as u8
 }
 
 // Refusal 6.
@@ -91,7 +83,7 @@ fn refused(exchange: Exchange, refusal: Refusal) -> Requested
 {
     Requested {
         exchange,
-        asked: Asked::Refused(refusal),
+        asked: Err(refusal),
     }
 }
 
@@ -133,15 +125,15 @@ fn open_free(
     ensures { requesting result room.new ≡ open_free terms exchange primary «data».now room.old }
 {
     match free_own(exchange.own) {
-        Found::At(place) => {
+        Some(place) => {
             store::keep(room, Message::Send, 0, data);
             let length = data.len() as u16;
             Requested {
                 exchange: claimed_at(exchange, terms, place, primary, length),
-                asked: Asked::Taken(place),
+                asked: Ok(place),
             }
         }
-        Found::Nowhere => refused(exchange, Refusal::NoPlace),
+        None => refused(exchange, Refusal::NoPlace),
     }
 }
 
@@ -190,7 +182,7 @@ fn reply_accepted(
     };
     Requested {
         exchange: with_sending(put_incoming(exchange, place, after), sending),
-        asked: Asked::Taken(place),
+        asked: Ok(place),
     }
 }
 
@@ -252,7 +244,7 @@ pub fn release_own(exchange: Exchange, place: usize) -> Requested
     if own::has_verdict(own) {
         return Requested {
             exchange: put_own(exchange, place, own::released(own)),
-            asked: Asked::Taken(place),
+            asked: Ok(place),
         };
     }
     refused(exchange, Refusal::Place)
@@ -269,6 +261,6 @@ pub fn release_incoming(exchange: Exchange, place: usize) -> Requested
     }
     Requested {
         exchange: put_incoming(exchange, place, incoming::released(incoming)),
-        asked: Asked::Taken(place),
+        asked: Ok(place),
     }
 }
