@@ -1,4 +1,5 @@
 -- How the functions' proofs put a call's answer and memory together: the gate, the short ways, the course, a request. Assumes nothing.
+use Rattle.std.specs.Prelude.{Result, Ok, Err}
 use Prim.Native.Nat.{ℕ, ◌-◌, ◌<◌}
 use mathlib.Core.Path.{◌≡◌, refl, sym, ap, ◌∙◌}
 use mathlib.Core.Bool.{Bool, true, false, false≢true}
@@ -43,8 +44,6 @@ use Rattle.link.specs.declared.Note.{Note}
 use Rattle.link.specs.declared.Note.TheVariants as note
 use Rattle.link.specs.declared.Refusal.{Refusal}
 use Rattle.link.specs.declared.Answer.{Answer}
-use Rattle.link.specs.declared.Gate.{Gate}
-use Rattle.link.specs.declared.Gate.TheVariants as gate
 use Rattle.link.specs.declared.Link.{Link}
 use Rattle.unit.specs.Settle.{settled_as, settled_out}
 use Rattle.unit.specs.Short.{says_nothing, is_quiet}
@@ -76,10 +75,10 @@ pub in_range_parts : (u : Link) → link_in_range (parts_of u.settings u.line u.
 unfolding link_in_range
 in_range_parts u = refl
 
-pub opens : (u : Link) (room o : List ℕ) (l : Left) {g : Gate} {x : Left} → g ≡ gate_of u (length room) (length o) → g ≡ gate.Open → x ≡ l → x ≡ gated u room o l
+pub opens : (u : Link) (room o : List ℕ) (l : Left) {g : Result Unit Refusal} {x : Left} → g ≡ gate_of u (length room) (length o) → g ≡ Ok tt → x ≡ l → x ≡ gated u room o l
 opens u room o l e q p = rw (sym e ∙ q) p
 
-pub shuts : (u : Link) (room o : List ℕ) (l : Left) (r : Refusal) {g : Gate} {a : Answer} → g ≡ gate_of u (length room) (length o) → g ≡ gate.Shut r
+pub shuts : (u : Link) (room o : List ℕ) (l : Left) (r : Refusal) {g : Result Unit Refusal} {a : Answer} → g ≡ gate_of u (length room) (length o) → g ≡ Err r
     → a ≡ refused_as u r → left a room o ≡ gated u room o l
 shuts u room o l r e q p = rw (sym e ∙ q) (closes room p refl)
 

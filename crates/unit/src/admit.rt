@@ -8,7 +8,7 @@ ghost use Rattle.link.specs.State.{gate_of, link_in_range, parts_of};
 use crate::setup::settings_in_range;
 use exchange::Exchange;
 use line::Line;
-use link::{Gate, Link, Refusal, Settings};
+use link::{Link, Refusal, Settings};
 
 // Whether every number is in its range (docs/STATE.md).
 #[tactic(auto, unfolding(link::specs::State::link_in_range, settings::specs::Panel::between))]
@@ -31,24 +31,24 @@ pub(crate) fn admits(
     block: u16,
     room: usize,
     out: usize,
-) -> Gate
+) -> Result<(), Refusal>
     ensures { result ≡ gate_of (parts_of settings line exchange block) room out }
 {
     if out < 257 {
-        return Gate::Shut(Refusal::OutputShort);
+        return Err(Refusal::OutputShort);
     }
     if room != 36864 {
-        return Gate::Shut(Refusal::RoomSize);
+        return Err(Refusal::RoomSize);
     }
     if fits(settings, line, exchange, block) {
-        return Gate::Open;
+        return Ok(());
     }
-    Gate::Shut(Refusal::State)
+    Err(Refusal::State)
 }
 
 // The same of a whole unit, where a copy of it does not matter.
 #[tactic(auto, unfolding(link::specs::State::gate_of, link::specs::State::link_in_range))]
-pub(crate) fn gate(link: Link, room: usize, out: usize) -> Gate
+pub(crate) fn gate(link: Link, room: usize, out: usize) -> Result<(), Refusal>
     ensures { result ≡ gate_of link room out }
 {
     admits(

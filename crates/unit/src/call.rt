@@ -11,7 +11,7 @@ use crate::courier::settles;
 use crate::state::refused;
 use crate::step::{is_quiet, onward, unless_block};
 use line::{Out, Remark, Step, Told};
-use link::{Answer, Gate, Link, Note, Outcome};
+use link::{Answer, Link, Note, Outcome};
 
 // A byte has come.
 pub fn byte(mut link: Link, b: u8, room: &mut [u8], out: &mut [u8]) -> Answer
@@ -25,7 +25,7 @@ pub fn byte(mut link: Link, b: u8, room: &mut [u8], out: &mut [u8]) -> Answer
         room.len(),
         out.len(),
     ) {
-        Gate::Open => {
+        Ok(()) => {
             let step = link.line.byte(link.settings.limits, b, &mut link.received);
             link.line = step.line;
             if is_quiet(step) {
@@ -40,7 +40,7 @@ pub fn byte(mut link: Link, b: u8, room: &mut [u8], out: &mut [u8]) -> Answer
             }
             unless_block(link, step, room, out)
         }
-        Gate::Shut(refusal) => refused(link, refusal),
+        Err(refusal) => refused(link, refusal),
     }
 }
 
@@ -56,7 +56,7 @@ pub fn tick(mut link: Link, room: &mut [u8], out: &mut [u8]) -> Answer
         room.len(),
         out.len(),
     ) {
-        Gate::Open => {
+        Ok(()) => {
             let step = link.line.tick(link.settings.limits);
             link.line = step.line;
             if is_quiet(step) && clerk::is_still(link.exchange) {
@@ -71,7 +71,7 @@ pub fn tick(mut link: Link, room: &mut [u8], out: &mut [u8]) -> Answer
             }
             onward(link, step, true, room, out)
         }
-        Gate::Shut(refusal) => refused(link, refusal),
+        Err(refusal) => refused(link, refusal),
     }
 }
 
@@ -80,7 +80,7 @@ pub fn drained(mut link: Link, room: &mut [u8], out: &mut [u8]) -> Answer
     ensures { left result room.new out.new ≡ drained_call link room.old out.old }
 {
     match gate(link, room.len(), out.len()) {
-        Gate::Open => {
+        Ok(()) => {
             link.line = link.line.drained();
             let step = Step {
                 line: link.line,
@@ -90,6 +90,6 @@ pub fn drained(mut link: Link, room: &mut [u8], out: &mut [u8]) -> Answer
             };
             onward(link, step, false, room, out)
         }
-        Gate::Shut(refusal) => refused(link, refusal),
+        Err(refusal) => refused(link, refusal),
     }
 }

@@ -7,8 +7,6 @@ ghost use Rattle.exchange.specs.Reports.{report_body, report_header};
 ghost use Rattle.link.specs.Run.{block_in, codes};
 ghost use Rattle.unit.specs.Put.{put_at};
 
-use block::Written;
-use cut::Cut;
 use exchange::Outgoing;
 use header::Header;
 use line::Out;
@@ -44,8 +42,8 @@ fn put_block(out: &mut [u8], header: Header, data: &[u8]) -> usize
     ensures { (result ≡ length (block_of header «data».now)) × (out.new ≡ on_front (block_of header «data».now) out.old) }
 {
     match codec::write_block(10 + data.len(), header, data, out) {
-        Written::Bytes(count) => count,
-        Written::Refused(_) => 0,
+        Ok(count) => count,
+        Err(_) => 0,
     }
 }
 
@@ -92,16 +90,12 @@ pub(crate) fn put_message(
         Outgoing::Nothing => 0,
         Outgoing::Message { header, length } => {
             match cut::cut_block(header, usize::from(length), usize::from(k)) {
-                Cut::Block {
-                    header,
-                    start,
-                    length,
-                } => put_block(
+                Some(cut) => put_block(
                     out,
-                    header,
-                    store::bytes_of(room, Message::Send, start, length),
+                    cut.header,
+                    store::bytes_of(room, Message::Send, cut.start, cut.length),
                 ),
-                Cut::NoBlock => 0,
+                None => 0,
             }
         }
         Outgoing::Report { function, number } => put_report(out, device, shown, function, number),

@@ -6,15 +6,15 @@ use exchange::{IncomingReading, OwnReading, Sending};
 use link::Link;
 use room::Message;
 
-// An own place: the primary's header, how it stands, and what is kept of its reply.
-pub fn own(link: Link, place: usize) -> OwnReading
+// An own place: the primary's header, how it stands, and what is kept of its reply; nothing of a free place, or of one above 3.
+pub fn own(link: Link, place: usize) -> Option<OwnReading>
     ensures { result ≡ own_of link place }
 {
     desk::own_reading(link.exchange, place)
 }
 
 // An incoming place: the header of its first block, how many data bytes are kept, whether it is complete, and our reply.
-pub fn incoming(link: Link, place: usize) -> IncomingReading
+pub fn incoming(link: Link, place: usize) -> Option<IncomingReading>
     ensures { result ≡ incoming_of link place }
 {
     desk::incoming_reading(link.exchange, place)
@@ -25,13 +25,13 @@ pub fn reply_data(link: Link, room: &[u8], place: usize) -> &[u8]
     ensures { result.now ≡ reply_data link room.now place }
 {
     match own(link, place) {
-        OwnReading::NoPlace => &room[0..0],
-        OwnReading::Place { reply, .. } => store::bytes_of(
+        Some(own) => store::bytes_of(
             room,
             Message::Reply(place),
             0,
-            usize::from(reply.length),
+            usize::from(own.reply.length),
         ),
+        None => &room[..0],
     }
 }
 
@@ -40,13 +40,13 @@ pub fn incoming_data(link: Link, room: &[u8], place: usize) -> &[u8]
     ensures { result.now ≡ incoming_data link room.now place }
 {
     match incoming(link, place) {
-        IncomingReading::NoPlace => &room[0..0],
-        IncomingReading::Place { length, .. } => store::bytes_of(
+        Some(incoming) => store::bytes_of(
             room,
             Message::Incoming(place),
             0,
-            usize::from(length),
+            usize::from(incoming.length),
         ),
+        None => &room[..0],
     }
 }
 

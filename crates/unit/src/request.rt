@@ -10,9 +10,9 @@ use crate::admit::{gate, in_range};
 use crate::courier::course;
 use crate::state::{answers, refused};
 use crate::told::untold;
-use exchange::{Asked, Primary, Requested};
+use exchange::{Primary, Requested};
 use line::{Out, Told};
-use link::{Answer, Gate, Link, Note, Outcome, Refusal};
+use link::{Answer, Link, Note, Outcome, Refusal};
 
 // A message that was accepted is to be sent: the courier asks for its first block.
 fn asks(link: Link, requested: Requested, room: &[u8], out: &mut [u8]) -> Answer
@@ -20,7 +20,7 @@ fn asks(link: Link, requested: Requested, room: &[u8], out: &mut [u8]) -> Answer
     ensures { left result room.now out.new ≡ requested_by requested.asked link requested.exchange room.now out.old }
 {
     match requested.asked {
-        Asked::Taken(place) => {
+        Ok(place) => {
             course(
                 link,
                 Out::Nothing,
@@ -31,7 +31,7 @@ fn asks(link: Link, requested: Requested, room: &[u8], out: &mut [u8]) -> Answer
                 out,
             )
         }
-        Asked::Refused(refusal) => refused(link, Refusal::Request(refusal)),
+        Err(refusal) => refused(link, Refusal::Request(refusal)),
     }
 }
 
@@ -40,11 +40,11 @@ pub fn open(link: Link, primary: Primary, data: &[u8], room: &mut [u8], out: &mu
     ensures { left result room.new out.new ≡ open_call link primary «data».now room.old out.old }
 {
     match gate(link, room.len(), out.len()) {
-        Gate::Open => {
+        Ok(()) => {
             let requested = clerk::open(link.exchange, link.settings.terms, primary, data, room);
             asks(link, requested, room, out)
         }
-        Gate::Shut(refusal) => refused(link, refusal),
+        Err(refusal) => refused(link, refusal),
     }
 }
 
@@ -60,11 +60,11 @@ pub fn reply(
     ensures { left result room.new out.new ≡ reply_call link place function «data».now room.old out.old }
 {
     match gate(link, room.len(), out.len()) {
-        Gate::Open => {
+        Ok(()) => {
             let requested = clerk::reply(link.exchange, place, function, data, room);
             asks(link, requested, room, out)
         }
-        Gate::Shut(refusal) => refused(link, refusal),
+        Err(refusal) => refused(link, refusal),
     }
 }
 
@@ -76,7 +76,7 @@ fn freed(mut link: Link, requested: Requested) -> Answer
         return refused(link, Refusal::State);
     }
     match requested.asked {
-        Asked::Taken(place) => {
+        Ok(place) => {
             link.exchange = requested.exchange;
             answers(
                 link,
@@ -86,7 +86,7 @@ fn freed(mut link: Link, requested: Requested) -> Answer
                 desk::no_flags(),
             )
         }
-        Asked::Refused(refusal) => refused(link, Refusal::Request(refusal)),
+        Err(refusal) => refused(link, Refusal::Request(refusal)),
     }
 }
 

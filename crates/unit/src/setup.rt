@@ -3,8 +3,8 @@ ghost use Rattle.std.specs.Prelude.{◌≡◌, ◌≤◌};
 ghost use Rattle.link.specs.Setup.{agreed_by, messages_of, no_settings, panel_of, settings_in_range, ranged_of};
 ghost use Rattle.settings.specs.Terms.{agreed_of};
 
-use link::{Ranged, Settings, Setup};
-use settings::{Agreed, Fifths, Limits, MessagePanel, Panel, Seconds, Taken, Tenths, Terms};
+use link::{Settings, Setup};
+use settings::{Fifths, Limits, MessagePanel, Panel, Seconds, Tenths, Terms};
 
 fn panel(setup: Setup) -> Panel
     requires { setup.rty ≤ 31 }
@@ -30,27 +30,23 @@ fn messages(setup: Setup) -> MessagePanel
     }
 }
 
-fn agreed(setup: Setup, limits: Limits) -> Ranged
+fn agreed(setup: Setup, limits: Limits) -> Option<Settings>
     ensures { result ≡ agreed_by (agreed_of (messages_of setup)) limits }
 {
-    match messages(setup).terms() {
-        Agreed::Terms(terms) => Ranged::Settings(Settings { limits, terms }),
-        Agreed::OutOfRange => Ranged::OutOfRange,
-    }
+    let terms = messages(setup).terms()?;
+    Some(Settings { limits, terms })
 }
 
 // Refusal 4: "setting out of range".
 #[tactic(auto, unfolding(link::specs::Setup::ranged_of))]
-pub(crate) fn ranged(setup: Setup) -> Ranged
+pub(crate) fn ranged(setup: Setup) -> Option<Settings>
     ensures { result ≡ ranged_of setup }
 {
     if 31 < setup.rty {
-        return Ranged::OutOfRange;
+        return None;
     }
-    match panel(setup).limits() {
-        Taken::Limits(limits) => agreed(setup, limits),
-        Taken::OutOfRange => Ranged::OutOfRange,
-    }
+    let limits = panel(setup).limits()?;
+    agreed(setup, limits)
 }
 
 // Those of no unit: none of T1 to T4 is in its range.
