@@ -5,7 +5,6 @@ ghost use Rattle.talk.specs.Answer.{command_done, done, early_shown, line_done, 
 ghost use Rattle.link.specs.Reading.{own_of};
 
 use crate::run;
-use exchange::OwnReading;
 use link::{Link, Setup};
 use place::Standing;
 use script::{Command, Printed};
@@ -83,18 +82,14 @@ fn standing_number(standing: Standing) -> u8
 fn verdict(link: Link, place: u8) -> Printed
     ensures { result ≡ verdict_by (own_of link place) place }
 {
-    match unit::own(link, place as usize) {
-        OwnReading::NoPlace => Printed::Answer {
+    match unit::own(link, usize::from(place)) {
+        Some(own) => Printed::Verdict {
+            place,
+            verdict: standing_number(own.standing),
+        },
+        None => Printed::Answer {
             number: 9,
             note: 20,
-        },
-        OwnReading::Place {
-            primary: _,
-            standing,
-            reply: _,
-        } => Printed::Verdict {
-            place,
-            verdict: standing_number(standing),
         },
     }
 }

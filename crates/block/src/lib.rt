@@ -13,13 +13,13 @@ pub struct Block {
     pub length: usize,
 }
 
-// What a block alone is refused by (01, "Refusal numbers and notes").
+// What a block alone is refused by, with its number in 01's table ("Refusal numbers and notes").
 #[derive(Clone, Copy)]
 pub enum Refusal {
-    // 1: an output of less than 257 bytes.
-    OutputShort,
-    // 12: a block length outside 10 to 254, or not the bytes given.
-    BlockLength,
-    // 13: the checksum differs.
-    ChecksumDiffers,
+    // An output of less than 257 bytes.
+    OutputShort = 1,
+    // A block length outside 10 to 254, or not the bytes given.
+    BlockLength = 12,
+    // The checksum differs.
+    ChecksumDiffers = 13,
 }

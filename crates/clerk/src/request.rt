@@ -4,31 +4,24 @@ ghost use Rattle.wire.specs.Message.{message_limit};
 ghost use Rattle.exchange.specs.Request.{requesting, bad_function, bad_primary, claimed_at, data_long, is_sending, not_ready, open_free, open_of, primary_header, refusal_number, refused_by, release_incoming, release_own, reply_accepted, reply_of, reply_ready};
 
 use desk::{incoming_place, own_place, put_incoming, put_own, with_sending};
-use exchange::{Asked, Exchange, Numbers, Primary, Refusal, Requested, Sending};
+use exchange::{Exchange, Numbers, Primary, Refusal, Requested, Sending};
 use header::Header;
 use life::{incoming, own};
 use place::Incoming;
 use room::Message;
 use seek::{free_own, next_number, own_put};
 use settings::Terms;
-use table::Found;
 use wire::MESSAGE_LIMIT;
 
+// The refusal's number in 01's table.
 pub fn refusal_number(refusal: Refusal) -> u8
     ensures { result ≡ refusal_number refusal }
 {
-    match refusal {
-        Refusal::Message => 5,
-        Refusal::DataLong => 6,
-        Refusal::Sending => 7,
-        Refusal::NoPlace => 8,
-        Refusal::Place => 9,
-        Refusal::NotWanted => 10,
-        Refusal::Replied => 11,
-    }
+    refusal as u8
 }
 
 // Refusal 6.
+#[tactic(auto, unfolding(exchange::specs::Request::data_long))]
 fn data_long(size: usize) -> bool
     ensures { result ≡ data_long size }
 {
@@ -36,13 +29,11 @@ fn data_long(size: usize) -> bool
 }
 
 // Refusal 5: "stream above 127; function even in a primary".
+#[tactic(auto, unfolding(exchange::specs::Request::bad_primary))]
 fn bad_primary(primary: Primary) -> bool
     ensures { result ≡ bad_primary primary }
 {
-    if 127 < primary.stream {
-        return true;
-    }
-    primary.function % 2 == 0
+    127 < primary.stream || primary.function % 2 == 0
 }
 
 // The header of the last block of a primary with `length` data bytes, which its place keeps. "System bytes: the caller's 16-bit source ID,
@@ -50,7 +41,7 @@ fn bad_primary(primary: Primary) -> bool
 fn primary_header(primary: Primary, terms: Terms, length: u16, number: u16) -> Header
     ensures { result ≡ primary_header terms primary length number }
 {
-    let blocks = cut::blocks_in(length as usize);
+    let blocks = cut::blocks_in(usize::from(length));
     Header {
         r: !terms.host,
         device: terms.device,
@@ -59,48 +50,45 @@ fn primary_header(primary: Primary, terms: Terms, length: u16, number: u16) -> H
         function: primary.function,
         e: true,
         number: blocks as u16,
-        system: primary.source as u32 * 65536 + number as u32,
+        system: u32::from(primary.source) * 65536 + u32::from(number),
     }
 }
 
 // Refusal 9 for a reply or a release: "an incoming one not complete or with its reply being sent or held".
+#[tactic(auto, unfolding(exchange::specs::Request::not_ready))]
 fn not_ready(place: Incoming) -> bool
     ensures { result ≡ not_ready place }
 {
-    if incoming::is_complete(place) {
-        return false;
-    }
-    !incoming::is_replied(place)
+    !incoming::is_complete(place) && !incoming::is_replied(place)
 }
 
 // Refusal 5 for a reply: "neither primary + 1 nor 0".
+#[tactic(auto, unfolding(exchange::specs::Request::bad_function))]
 fn bad_function(primary: Header, function: u8) -> bool
     ensures { result ≡ bad_function primary function }
 {
-    if function == 0 {
-        return false;
-    }
-    function as u16 != primary.function as u16 + 1
+    function != 0 && u16::from(function) != u16::from(primary.function) + 1
 }
 
 // Whether a message is being sent or held; a report is one.
 pub fn is_sending(exchange: Exchange) -> bool
     ensures { result ≡ is_sending exchange }
 {
-    let sending = exchange.sending;
-    desk::is_message(sending)
+    desk::is_message(exchange.sending)
 }
 
+#[tactic(auto, unfolding(exchange::specs::Request::refused_by))]
 fn refused(exchange: Exchange, refusal: Refusal) -> Requested
     ensures { result ≡ refused_by exchange refusal }
 {
     Requested {
         exchange,
-        asked: Asked::Refused(refusal),
+        asked: Err(refusal),
     }
 }
 
 // A primary of `length` data bytes takes an own place and the next number, and is to be sent.
+#[tactic(auto, unfolding(exchange::specs::Request::claimed_at))]
 fn claimed_at(
     exchange: Exchange,
     terms: Terms,
@@ -110,33 +98,22 @@ fn claimed_at(
 ) -> Exchange
     ensures { result ≡ claimed_at terms exchange place primary length }
 {
-    let before = exchange.own;
-    let number = next_number(before, exchange.numbers.last, exchange.numbers.latest);
+    let number = next_number(exchange.own, exchange.numbers.last, exchange.numbers.latest);
     let header = primary_header(primary, terms, length, number).bytes();
-    let own = own_put(
-        before,
-        place,
-        own::claimed(own_place(exchange, place), header),
-    );
-    let incoming = exchange.incoming;
-    let saved = exchange.saved;
-    let numbers = Numbers {
-        last: number,
-        latest: exchange.numbers.latest,
-    };
-    let sending = Sending::Primary { place, length };
-    let reports = exchange.reports;
+    let claimed = own::claimed(own_place(exchange, place), header);
     Exchange {
-        own,
-        incoming,
-        saved,
-        numbers,
-        sending,
-        reports,
+        own: own_put(exchange.own, place, claimed),
+        numbers: Numbers {
+            last: number,
+            ..exchange.numbers
+        },
+        sending: Sending::Primary { place, length },
+        ..exchange
     }
 }
 
 // Refusal 8, and the acceptance.
+#[tactic(auto, unfolding(exchange::specs::Request::open_free, exchange::specs::Request::refused))]
 fn open_free(
     exchange: Exchange,
     terms: Terms,
@@ -147,21 +124,21 @@ fn open_free(
     requires { length «data».now ≤ message_limit }
     ensures { requesting result room.new ≡ open_free terms exchange primary «data».now room.old }
 {
-    let own = exchange.own;
-    match free_own(own) {
-        Found::At(place) => {
+    match free_own(exchange.own) {
+        Some(place) => {
             store::keep(room, Message::Send, 0, data);
             let length = data.len() as u16;
             Requested {
                 exchange: claimed_at(exchange, terms, place, primary, length),
-                asked: Asked::Taken(place),
+                asked: Ok(place),
             }
         }
-        Found::Nowhere => refused(exchange, Refusal::NoPlace),
+        None => refused(exchange, Refusal::NoPlace),
     }
 }
 
 // Opens a primary: 5, 6, 7, 8. Its data goes to the send area.
+#[tactic(auto, unfolding(exchange::specs::Request::open_of, exchange::specs::Request::refused, exchange::specs::Request::data_long))]
 pub fn open(
     exchange: Exchange,
     terms: Terms,
@@ -184,6 +161,7 @@ pub fn open(
 }
 
 // A reply is accepted: it is to be sent.
+#[tactic(auto, unfolding(exchange::specs::Request::reply_accepted))]
 fn reply_accepted(
     exchange: Exchange,
     place: usize,
@@ -204,11 +182,12 @@ fn reply_accepted(
     };
     Requested {
         exchange: with_sending(put_incoming(exchange, place, after), sending),
-        asked: Asked::Taken(place),
+        asked: Ok(place),
     }
 }
 
 // 5, 6 and 7 of a reply.
+#[tactic(auto, unfolding(exchange::specs::Request::reply_ready, exchange::specs::Request::refused, exchange::specs::Request::data_long))]
 fn reply_ready(
     exchange: Exchange,
     place: usize,
@@ -232,6 +211,7 @@ fn reply_ready(
 }
 
 // Replies to the message in an incoming place: 9, 10, 11, 5, 6, 7. The stream is the primary's.
+#[tactic(auto, unfolding(exchange::specs::Request::reply_of, exchange::specs::Request::refused))]
 pub fn reply(
     exchange: Exchange,
     place: usize,
@@ -256,6 +236,7 @@ pub fn reply(
 }
 
 // Releases an own place that has its verdict.
+#[tactic(auto, unfolding(exchange::specs::Request::release_own))]
 pub fn release_own(exchange: Exchange, place: usize) -> Requested
     ensures { result ≡ release_own exchange place }
 {
@@ -263,13 +244,14 @@ pub fn release_own(exchange: Exchange, place: usize) -> Requested
     if own::has_verdict(own) {
         return Requested {
             exchange: put_own(exchange, place, own::released(own)),
-            asked: Asked::Taken(place),
+            asked: Ok(place),
         };
     }
     refused(exchange, Refusal::Place)
 }
 
 // Releases an incoming place whose message is complete and has no reply on its way.
+#[tactic(auto, unfolding(exchange::specs::Request::release_incoming))]
 pub fn release_incoming(exchange: Exchange, place: usize) -> Requested
     ensures { result ≡ release_incoming exchange place }
 {
@@ -279,6 +261,6 @@ pub fn release_incoming(exchange: Exchange, place: usize) -> Requested
     }
     Requested {
         exchange: put_incoming(exchange, place, incoming::released(incoming)),
-        asked: Asked::Taken(place),
+        asked: Ok(place),
     }
 }

@@ -1,6 +1,7 @@
 // The message that is being sent: what it is, and how its sending ends; a report that waits starts then (02, request 2).
 ghost use Rattle.std.specs.Prelude.{◌≡◌};
-ghost use Rattle.exchange.specs.Send.{ended_own, ended_reply, ended_report, failed_by, failed_of, outgoing_of, put_out_of, reply_to, sent_by, sent_of};
+ghost use Rattle.exchange.specs.Send.{ended_own, ended_reply, ended_report, failed_of, outgoing_of, put_out_of, reply_to, sent_of};
+ghost use Rattle.clerk.specs.Ends.{Ends};
 
 use desk::{
     freed_in, got_verdict, incoming_place, no_flags, own_place, put_incoming, put_own,
@@ -31,8 +32,7 @@ fn reply_to(primary: Header, function: u8) -> Header
 pub fn outgoing(exchange: Exchange) -> Outgoing
     ensures { result ≡ outgoing_of exchange }
 {
-    let sending = exchange.sending;
-    match sending {
+    match exchange.sending {
         Sending::Nothing => Outgoing::Nothing,
         Sending::Primary { place, length } => Outgoing::Message {
             header: own::primary(own_place(exchange, place)),
@@ -55,52 +55,47 @@ pub fn outgoing(exchange: Exchange) -> Outgoing
 pub fn put_out(exchange: Exchange) -> Exchange
     ensures { result ≡ put_out_of exchange }
 {
-    let sending = exchange.sending;
-    match sending {
-        Sending::Nothing => exchange,
-        Sending::Primary { place, length: _ } => put_own(
+    match exchange.sending {
+        Sending::Primary { place, .. } => put_own(
             exchange,
             place,
             own::put_out(own_place(exchange, place)),
         ),
-        Sending::Reply {
-            place: _,
-            function: _,
-            length: _,
-        } => exchange,
-        Sending::Report {
-            function: _,
-            number: _,
-        } => exchange,
+        Sending::Nothing | Sending::Reply { .. } | Sending::Report { .. } => exchange,
     }
 }
 
 // The sending of a primary is over.
+#[tactic(auto, unfolding(exchange::specs::Send::ended_own))]
 fn ended_own(exchange: Exchange, place: usize, after: Own) -> Changed
     ensures { result ≡ ended_own exchange place after }
 {
-    let before = own_place(exchange, place);
-    let flags = verdict_flag(place, got_verdict(before, after));
-    let exchange = with_sending(put_own(exchange, place, after), Sending::Nothing);
-    Changed { exchange, flags }
+    Changed {
+        exchange: with_sending(put_own(exchange, place, after), Sending::Nothing),
+        flags: verdict_flag(place, got_verdict(own_place(exchange, place), after)),
+    }
 }
 
 // The sending of a reply is over: "a reply of ours that ends raises" no flag.
+#[tactic(auto, unfolding(exchange::specs::Send::ended_reply))]
 fn ended_reply(exchange: Exchange, place: usize, after: Incoming) -> Changed
     ensures { result ≡ ended_reply exchange place after }
 {
-    let flags = no_flags();
-    let exchange = with_sending(put_incoming(exchange, place, after), Sending::Nothing);
-    Changed { exchange, flags }
+    Changed {
+        exchange: with_sending(put_incoming(exchange, place, after), Sending::Nothing),
+        flags: no_flags(),
+    }
 }
 
 // A report is over: it has no place and no verdict.
+#[tactic(auto, unfolding(exchange::specs::Send::ended_report))]
 fn ended_report(exchange: Exchange) -> Changed
     ensures { result ≡ ended_report exchange }
 {
-    let flags = no_flags();
-    let exchange = with_sending(exchange, Sending::Nothing);
-    Changed { exchange, flags }
+    Changed {
+        exchange: with_sending(exchange, Sending::Nothing),
+        flags: no_flags(),
+    }
 }
 
 // The oldest report that waits starts in the call that ends a message, `before`. Where none waits, as mostly, the state is not put together
@@ -108,43 +103,39 @@ fn ended_report(exchange: Exchange) -> Changed
 fn freeing(before: Sending, changed: Changed) -> Changed
     ensures { result ≡ Rattle.exchange.specs.Send.freeing before changed }
 {
-    let exchange = changed.exchange;
-    let reports = exchange.reports;
-    if reports.count == 0 {
+    if changed.exchange.reports.count == 0 {
         return changed;
     }
-    let flags = changed.flags;
-    let outbox = freed_in(before, exchange);
-    let exchange = with_outbox(exchange, outbox);
-    Changed { exchange, flags }
+    let outbox = freed_in(before, changed.exchange);
+    Changed {
+        exchange: with_outbox(changed.exchange, outbox),
+        ..changed
+    }
 }
 
-// What the places make of an ACK of the message's last block.
-fn sent_by(exchange: Exchange) -> Changed
-    ensures { result ≡ sent_by exchange.sending exchange }
+// What the places make of the end of what is being sent: `own` is what becomes of the place of a primary, `incoming` of that of a
+// reply.
+fn ended<F: Fn(Own) -> Own, G: Fn(Incoming) -> Incoming>(
+    exchange: Exchange,
+    own: F,
+    incoming: G,
+) -> Changed
+    requires own { F.IsAlwaysCallable own }
+    requires incoming { G.IsAlwaysCallable incoming }
+    ensures { Ends (F.post own) (G.post incoming) exchange.sending exchange result }
 {
-    let sending = exchange.sending;
-    match sending {
+    match exchange.sending {
         Sending::Nothing => Changed {
             exchange,
             flags: no_flags(),
         },
-        Sending::Primary { place, length: _ } => {
-            ended_own(exchange, place, own::sent(own_place(exchange, place)))
+        Sending::Primary { place, .. } => {
+            ended_own(exchange, place, own(own_place(exchange, place)))
         }
-        Sending::Reply {
-            place,
-            function: _,
-            length: _,
-        } => ended_reply(
-            exchange,
-            place,
-            incoming::sent(incoming_place(exchange, place)),
-        ),
-        Sending::Report {
-            function: _,
-            number: _,
-        } => ended_report(exchange),
+        Sending::Reply { place, .. } => {
+            ended_reply(exchange, place, incoming(incoming_place(exchange, place)))
+        }
+        Sending::Report { .. } => ended_report(exchange),
     }
 }
 
@@ -152,43 +143,14 @@ fn sent_by(exchange: Exchange) -> Changed
 pub fn sent(exchange: Exchange) -> Changed
     ensures { result ≡ sent_of exchange }
 {
-    let before = exchange.sending;
-    freeing(before, sent_by(exchange))
-}
-
-// What the places make of a block that failed.
-fn failed_by(exchange: Exchange) -> Changed
-    ensures { result ≡ failed_by exchange.sending exchange }
-{
-    let sending = exchange.sending;
-    match sending {
-        Sending::Nothing => Changed {
-            exchange,
-            flags: no_flags(),
-        },
-        Sending::Primary { place, length: _ } => {
-            ended_own(exchange, place, own::failed(own_place(exchange, place)))
-        }
-        Sending::Reply {
-            place,
-            function: _,
-            length: _,
-        } => ended_reply(
-            exchange,
-            place,
-            incoming::failed(incoming_place(exchange, place)),
-        ),
-        Sending::Report {
-            function: _,
-            number: _,
-        } => ended_report(exchange),
-    }
+    let sent = ended(exchange, own::sent, incoming::sent);
+    freeing(exchange.sending, sent)
 }
 
 // A block of the message being sent failed.
 pub fn failed(exchange: Exchange) -> Changed
     ensures { result ≡ failed_of exchange }
 {
-    let before = exchange.sending;
-    freeing(before, failed_by(exchange))
+    let failed = ended(exchange, own::failed, incoming::failed);
+    freeing(exchange.sending, failed)
 }

@@ -11,7 +11,7 @@ ghost use Rattle.wire.specs.Lent.{on_front};
 ghost use Rattle.block.specs.Block.{GoodLength, data_in, framed, length_good, read_of, read_sized, write_of, writing};
 ghost use Rattle.block.specs.Refusal.{refusal_number};
 
-use block::{Read, Refusal, Written};
+use block::{Block, Refusal};
 use header::Header;
 use wire::{checksum, halves, pair, put};
 
@@ -39,17 +39,22 @@ fn put_block(header: [u8; 10], data: &[u8], out: &mut [u8])
 // Writes the block of a header and data into a lent output. `length` is the block length N that the caller means
 // to send; it must be the ten bytes of the header and all of `data`.
 #[tactic(auto, unfolding(block::specs::Block::write_of, block::specs::Block::output_short, block::specs::Block::refused_write, block::specs::Block::taken_write), using(block::proofs::Reading::good_length))]
-pub fn write_block(length: usize, header: Header, data: &[u8], out: &mut [u8]) -> Written
+pub fn write_block(
+    length: usize,
+    header: Header,
+    data: &[u8],
+    out: &mut [u8],
+) -> Result<usize, Refusal>
     ensures { writing result out.new ≡ write_of length header «data».now out.old }
 {
     if out.len() < 257 {
-        return Written::Refused(Refusal::OutputShort);
+        return Err(Refusal::OutputShort);
     }
     if good_length(length, 10 + data.len()) {
         put_block(header.bytes(), data, out);
-        return Written::Bytes(length + 3);
+        return Ok(length + 3);
     }
-    Written::Refused(Refusal::BlockLength)
+    Err(Refusal::BlockLength)
 }
 
 // The first ten bytes of a slice.
@@ -65,34 +70,34 @@ fn first_ten(s: &[u8]) -> [u8; 10]
 
 // Reads a block whose length N is good: what is left to judge is its sum.
 #[tactic(auto, unfolding(block::specs::Block::read_sized, block::specs::Block::sums_agree, header::specs::Header::header_of, wire::specs::Bytes::part))]
-fn read_sized(line: &[u8], n: usize) -> Read
+fn read_sized(line: &[u8], n: usize) -> Result<Block, Refusal>
     requires { GoodLength n (length line.now - 3) }
     ensures { result ≡ read_sized line.now n }
 {
     let body = &line[1..n + 1];
     if checksum(body) == pair(line[n + 1], line[n + 2]) {
-        Read::Block {
+        Ok(Block {
             header: Header::from_bytes(first_ten(body)),
             length: n,
-        }
+        })
     } else {
-        Read::Refused(Refusal::ChecksumDiffers)
+        Err(Refusal::ChecksumDiffers)
     }
 }
 
 // Reads a block as it stood on the line, from its length byte to the second byte of its sum.
 #[tactic(auto, unfolding(block::specs::Block::read_of), using(block::proofs::Reading::good_length, block::proofs::Reading::read_short))]
-pub fn read_block(line: &[u8]) -> Read
+pub fn read_block(line: &[u8]) -> Result<Block, Refusal>
     ensures { result ≡ read_of line.now }
 {
     if line.len() < 3 {
-        return Read::Refused(Refusal::BlockLength);
+        return Err(Refusal::BlockLength);
     }
     let n = usize::from(line[0]);
     if good_length(n, line.len() - 3) {
         read_sized(line, n)
     } else {
-        Read::Refused(Refusal::BlockLength)
+        Err(Refusal::BlockLength)
     }
 }
 
@@ -110,8 +115,8 @@ pub fn block_data(line: &[u8]) -> &[u8]
     ensures { result.now ≡ data_in (read_of line.now) line.now }
 {
     match read_block(line) {
-        Read::Block { length, .. } => data_part(line, length),
-        Read::Refused(_) => &line[..0],
+        Ok(block) => data_part(line, block.length),
+        Err(_) => &line[..0],
     }
 }
 
@@ -119,9 +124,5 @@ pub fn block_data(line: &[u8]) -> &[u8]
 pub fn refusal_number(refusal: Refusal) -> u8
     ensures { result ≡ refusal_number refusal }
 {
-    match refusal {
-        Refusal::OutputShort => 1,
-        Refusal::BlockLength => 12,
-        Refusal::ChecksumDiffers => 13,
-    }
+    refusal as u8
 }

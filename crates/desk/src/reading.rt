@@ -35,31 +35,33 @@ fn reply_stage(place: Incoming) -> ReplyStage
     }
 }
 
-pub fn own_reading(exchange: Exchange, place: usize) -> OwnReading
+// What is read of an own place: nothing of a free one, or of one above 3.
+pub fn own_reading(exchange: Exchange, place: usize) -> Option<OwnReading>
     ensures { result ≡ own_reading exchange place }
 {
     let own = own_place(exchange, place);
     if own::is_free(own) {
-        return OwnReading::NoPlace;
+        return None;
     }
-    OwnReading::Place {
+    Some(OwnReading {
         primary: own::primary(own),
         standing: own::standing(own),
         reply: own::reply(own),
-    }
+    })
 }
 
-pub fn incoming_reading(exchange: Exchange, place: usize) -> IncomingReading
+// The same of an incoming place.
+pub fn incoming_reading(exchange: Exchange, place: usize) -> Option<IncomingReading>
     ensures { result ≡ incoming_reading exchange place }
 {
     let incoming = incoming_place(exchange, place);
     if incoming::is_free(incoming) {
-        return IncomingReading::NoPlace;
+        return None;
     }
-    IncomingReading::Place {
+    Some(IncomingReading {
         primary: incoming::primary(incoming),
         length: incoming::length(incoming),
         complete: !incoming::is_open(incoming),
         reply: reply_stage(incoming),
-    }
+    })
 }

@@ -2,7 +2,7 @@
 ghost use Rattle.std.specs.Prelude.{◌≡◌};
 ghost use Rattle.exchange.specs.Exchange.{fresh_exchange, got_verdict, latest_after, put_incoming, put_own, put_replied, saved_now, sent_behind, sent_from, with_sending};
 
-use exchange::{Exchange, Numbers, Saved, Sending};
+use exchange::{Exchange, Numbers, Sending};
 use life::{incoming, own};
 use place::{Incoming, Own};
 use seek::{incoming_at, incoming_put, number_of, own_at, own_put};
@@ -34,10 +34,7 @@ pub fn fresh(last: u16) -> Exchange
     Exchange {
         own: [own::fresh(); 4],
         incoming: [incoming::fresh(); 4],
-        saved: Saved {
-            any: false,
-            header: [0; 10],
-        },
+        saved: None,
         numbers: Numbers { last, latest: 0 },
         sending: Sending::Nothing,
         reports: reports::none(),
@@ -118,7 +115,7 @@ pub fn with_saved(exchange: Exchange, header: [u8; 10]) -> Exchange
     ensures { result ≡ saved_now exchange header }
 {
     Exchange {
-        saved: Saved { any: true, header },
+        saved: Some(header),
         ..exchange
     }
 }

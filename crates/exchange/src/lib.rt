@@ -132,23 +132,23 @@ pub struct Requested {
 // What a request comes to: taken, for this place, or refused.
 pub type Asked = Result<usize, Refusal>;
 
-// Refusals 5 to 11 of 01's table.
+// Refusals 5 to 11 of 01's table, with their numbers.
 #[derive(Clone, Copy)]
 pub enum Refusal {
-    // 5: "stream above 127; function even in a primary; in a reply, neither primary + 1 nor 0".
-    Message,
-    // 6: "data above 4,096 bytes".
-    DataLong,
-    // 7: "a message is being sent or held".
-    Sending,
-    // 8: "all 4 own places in use".
-    NoPlace,
-    // 9: "place above 3 or free; ..".
-    Place,
-    // 10: "reply to a primary with W = 0".
-    NotWanted,
-    // 11: "a reply to this primary was accepted before, even if it failed".
-    Replied,
+    // "stream above 127; function even in a primary; in a reply, neither primary + 1 nor 0".
+    Message = 5,
+    // "data above 4,096 bytes".
+    DataLong = 6,
+    // "a message is being sent or held".
+    Sending = 7,
+    // "all 4 own places in use".
+    NoPlace = 8,
+    // "place above 3 or free; ..".
+    Place = 9,
+    // "reply to a primary with W = 0".
+    NotWanted = 10,
+    // "a reply to this primary was accepted before, even if it failed".
+    Replied = 11,
 }
 
 // What is read of an own place in use: the primary, how it stands, and what is kept of its reply.

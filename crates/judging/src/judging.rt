@@ -15,59 +15,34 @@ use reports::Report;
 use room::Message;
 use seek::{free_incoming, message_for, open_alike, reply_for};
 use settings::Terms;
-use table::Found;
 
 // Rule 1: "R-bit or device ID not this link's incoming one". R = 1 means to the host.
+#[tactic(auto, unfolding(exchange::specs::Judge::is_misrouted))]
 fn is_misrouted(terms: Terms, header: Header) -> bool
     ensures { result ≡ is_misrouted terms header }
 {
-    if header.device == terms.device {
-        if header.r {
-            if terms.host { false } else { true }
-        } else {
-            if terms.host { true } else { false }
-        }
-    } else {
-        true
-    }
+    header.device != terms.device || header.r != terms.host
 }
 
 // Whether all ten bytes are the same.
 fn same_bytes(a: [u8; 10], b: [u8; 10]) -> bool
     ensures { result ≡ same_bytes a b }
 {
-    let mut i: usize = 0;
-    while i < 10 {
-        if a[i] != b[i] {
-            return false;
-        }
-        i = i + 1;
-    }
-    true
+    a == b
 }
 
 // Whether a block with this fate is its message's last.
 fn is_last(fate: Fate) -> bool
     ensures { result ≡ last_by fate }
 {
-    match fate {
-        Fate::Empty => false,
-        Fate::TooLong => false,
-        Fate::Last(_) => true,
-        Fate::More(_) => false,
-    }
+    matches!(fate, Fate::Last(_))
 }
 
 // Whether a block with this fate breaks its message.
 fn is_spoilt(fate: Fate) -> bool
     ensures { result ≡ spoilt_by fate }
 {
-    match fate {
-        Fate::Empty => true,
-        Fate::TooLong => true,
-        Fate::Last(_) => false,
-        Fate::More(_) => false,
-    }
+    matches!(fate, Fate::Empty | Fate::TooLong)
 }
 
 // The data of a block that is kept goes behind what its message has.
@@ -75,25 +50,20 @@ fn keep_by(fate: Fate, room: &mut [u8], message: Message, have: u16, data: &[u8]
     ensures { room.new ≡ keep_by fate room.old message have «data».now }
 {
     match fate {
-        Fate::Empty => {}
-        Fate::TooLong => {}
-        Fate::Last(_) => store::keep(room, message, have as usize, data),
-        Fate::More(_) => store::keep(room, message, have as usize, data),
+        Fate::Empty | Fate::TooLong => {}
+        Fate::Last(_) | Fate::More(_) => store::keep(room, message, usize::from(have), data),
     }
 }
 
 // Rule 2: "Duplicate check on and all ten bytes of the header equal the saved one (none at a start)".
+#[tactic(auto, unfolding(exchange::specs::Judge::is_duplicate, exchange::specs::Judge::is_saved))]
 fn is_duplicate(exchange: Exchange, terms: Terms, header: [u8; 10]) -> bool
     ensures { result ≡ is_duplicate terms exchange header }
 {
-    if terms.duplicates {
-        let saved = exchange.saved;
-        if saved.any {
-            let bytes = saved.header;
-            return same_bytes(bytes, header);
-        }
+    match exchange.saved {
+        Some(saved) => terms.duplicates && same_bytes(saved, header),
+        None => false,
     }
-    false
 }
 
 // The block is thrown out, with a note that says why.
@@ -108,6 +78,7 @@ fn thrown(exchange: Exchange, note: Note) -> Judged
 }
 
 // A block of the reply in an own place.
+#[tactic(auto, unfolding(exchange::specs::Judge::reply_block))]
 fn reply_block(
     exchange: Exchange,
     place: usize,
@@ -130,6 +101,7 @@ fn reply_block(
 }
 
 // A further block of the message in an incoming place.
+#[tactic(auto, unfolding(exchange::specs::Judge::message_block))]
 fn message_block(
     exchange: Exchange,
     place: usize,
@@ -152,6 +124,7 @@ fn message_block(
 }
 
 // A primary begins in an incoming place; `gone` says whether it throws an open message out.
+#[tactic(auto, unfolding(exchange::specs::Judge::begins_at))]
 fn begins_at(
     exchange: Exchange,
     place: usize,
@@ -173,6 +146,7 @@ fn begins_at(
 }
 
 // Rule 6.
+#[tactic(auto, unfolding(exchange::specs::Judge::takes_place, exchange::specs::Judge::thrown))]
 fn takes_place(
     exchange: Exchange,
     header: Header,
@@ -182,17 +156,17 @@ fn takes_place(
 ) -> Judged
     ensures { judging result room.new ≡ takes_place exchange header last «data».now room.old }
 {
-    let incoming = exchange.incoming;
-    match open_alike(incoming, header) {
-        Found::At(place) => begins_at(exchange, place, header, true, last, data, room),
-        Found::Nowhere => match free_incoming(incoming) {
-            Found::At(place) => begins_at(exchange, place, header, false, last, data, room),
-            Found::Nowhere => thrown(exchange, Note::NoPlace),
+    match open_alike(exchange.incoming, header) {
+        Some(place) => begins_at(exchange, place, header, true, last, data, room),
+        None => match free_incoming(exchange.incoming) {
+            Some(place) => begins_at(exchange, place, header, false, last, data, room),
+            None => thrown(exchange, Note::NoPlace),
         },
     }
 }
 
 // The first block of a primary: rules 4 and 5, then 6 and 7.
+#[tactic(auto, unfolding(exchange::specs::Judge::primary_block, exchange::specs::Judge::thrown))]
 fn primary_block(exchange: Exchange, header: Header, data: &[u8], room: &mut [u8]) -> Judged
     ensures { judging result room.new ≡ primary_block exchange header «data».now room.old }
 {
@@ -205,13 +179,13 @@ fn primary_block(exchange: Exchange, header: Header, data: &[u8], room: &mut [u8
 }
 
 // Rule 3 for a block of no reply: "If it is neither, it must begin a primary".
+#[tactic(auto, unfolding(exchange::specs::Judge::no_reply_block, exchange::specs::Judge::thrown, exchange::specs::Judge::or_primary))]
 fn no_reply_block(exchange: Exchange, header: Header, data: &[u8], room: &mut [u8]) -> Judged
     ensures { judging result room.new ≡ no_reply_block exchange header «data».now room.old }
 {
-    let incoming = exchange.incoming;
-    match message_for(incoming, header) {
-        Found::At(place) => message_block(exchange, place, header, data, room),
-        Found::Nowhere => {
+    match message_for(exchange.incoming, header) {
+        Some(place) => message_block(exchange, place, header, data, room),
+        None => {
             if begins_primary(header) {
                 primary_block(exchange, header, data, room)
             } else {
@@ -222,17 +196,18 @@ fn no_reply_block(exchange: Exchange, header: Header, data: &[u8], room: &mut [u
 }
 
 // Rule 3, for a block that is neither misrouted nor a duplicate.
+#[tactic(auto, unfolding(exchange::specs::Judge::new_block))]
 fn new_block(exchange: Exchange, header: Header, data: &[u8], room: &mut [u8]) -> Judged
     ensures { judging result room.new ≡ new_block exchange header «data».now room.old }
 {
-    let own = exchange.own;
-    match reply_for(own, header) {
-        Found::At(place) => reply_block(exchange, place, header, data, room),
-        Found::Nowhere => no_reply_block(exchange, header, data, room),
+    match reply_for(exchange.own, header) {
+        Some(place) => reply_block(exchange, place, header, data, room),
+        None => no_reply_block(exchange, header, data, room),
     }
 }
 
 // The seven rules in their order, for a block with these ten header bytes and this data.
+#[tactic(auto, unfolding(exchange::specs::Judge::rules_of, exchange::specs::Judge::thrown))]
 fn rules(exchange: Exchange, terms: Terms, header: [u8; 10], data: &[u8], room: &mut [u8]) -> Judged
     ensures { judging result room.new ≡ rules_of terms exchange header «data».now room.old }
 {
@@ -250,15 +225,7 @@ fn rules(exchange: Exchange, terms: Terms, header: [u8; 10], data: &[u8], room: 
 fn causes(note: Note) -> bool
     ensures { result ≡ Rattle.judging.specs.Short.causes note }
 {
-    match note {
-        Note::Kept => false,
-        Note::Misrouted => true,
-        Note::Duplicate => false,
-        Note::Stray => false,
-        Note::NoPlace => false,
-        Note::TooLong => true,
-        Note::Empty => false,
-    }
+    matches!(note, Note::Misrouted | Note::TooLong)
 }
 
 // "A misrouted block gives S9F1 .. a message over the limit gives S9F11", with "the ten header bytes of the offending block". `exchange`
@@ -272,45 +239,30 @@ fn caused_by(
 ) -> Outbox
     ensures { result ≡ caused_by note terms exchange header outbox }
 {
-    let own = exchange.own;
-    let latest = exchange.numbers.latest;
-    match note {
-        Note::Kept => outbox,
-        Note::Misrouted => {
-            let report = Report {
-                function: 1,
-                header,
-            };
-            desk::caused(terms, own, latest, outbox, report)
-        }
-        Note::Duplicate => outbox,
-        Note::Stray => outbox,
-        Note::NoPlace => outbox,
-        Note::TooLong => {
-            let report = Report {
-                function: 11,
-                header,
-            };
-            desk::caused(terms, own, latest, outbox, report)
-        }
-        Note::Empty => outbox,
-    }
+    let function = match note {
+        Note::Misrouted => 1,
+        Note::TooLong => 11,
+        Note::Kept | Note::Duplicate | Note::Stray | Note::NoPlace | Note::Empty => return outbox,
+    };
+    desk::caused(
+        terms,
+        exchange.own,
+        exchange.numbers.latest,
+        outbox,
+        Report { function, header },
+    )
 }
 
 // What is reported of it, where `before` was being sent: a block that ends it frees the line first.
+#[tactic(auto, unfolding(exchange::specs::Judge::box_behind))]
 fn reporting(judged: Judged, terms: Terms, before: Sending, header: [u8; 10]) -> Judged
     ensures { result ≡ Rattle.exchange.specs.Judge.reporting terms before header judged }
 {
-    let exchange = judged.exchange;
-    let note = judged.note;
-    let flags = judged.flags;
-    let freed = desk::freed_in(before, exchange);
-    let outbox = caused_by(note, terms, exchange, header, freed);
-    let exchange = desk::with_outbox(exchange, outbox);
+    let freed = desk::freed_in(before, judged.exchange);
+    let outbox = caused_by(judged.note, terms, judged.exchange, header, freed);
     Judged {
-        exchange,
-        note,
-        flags,
+        exchange: desk::with_outbox(judged.exchange, outbox),
+        ..judged
     }
 }
 
@@ -327,13 +279,7 @@ pub fn judge(
 {
     let before = exchange.sending;
     let judged = rules(exchange, terms, header, data, room);
-    let note = judged.note;
-    if causes(note) {
-        return reporting(judged, terms, before, header);
-    }
-    let after = judged.exchange;
-    let sending = after.sending;
-    if desk::is_over(before, sending) {
+    if causes(judged.note) || desk::is_over(before, judged.exchange.sending) {
         return reporting(judged, terms, before, header);
     }
     judged

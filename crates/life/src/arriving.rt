@@ -3,8 +3,8 @@ ghost use Rattle.std.specs.Prelude.{◌≡◌};
 ghost use Rattle.place.specs.Arriving.{arriving_from, arriving_tick, continues_arriving, kind_of};
 
 use header::Header;
-use place::{Arriving, Kind, Waited};
-use settings::{Terms, Timer};
+use place::{Arriving, Kind};
+use settings::Terms;
 
 // What a block says of its message.
 fn kind_of(header: Header) -> Kind
@@ -29,15 +29,13 @@ pub(crate) fn from(header: Header, length: u16) -> Arriving
     }
 }
 
-// 0.1 s have passed: "T4 beyond its limit breaks the message."
+// 0.1 s have passed: what is left of it, or nothing, for "T4 beyond its limit breaks the message."
 #[tactic(auto, unfolding(place::specs::Arriving::arriving_tick))]
-pub(crate) fn tick(arriving: Arriving, terms: Terms) -> Waited
+pub(crate) fn tick(arriving: Arriving, terms: Terms) -> Option<Arriving>
     ensures { result ≡ arriving_tick terms arriving }
 {
-    match terms.t4.tick(arriving.timer) {
-        Timer::RunsOut => Waited::Broken,
-        Timer::Runs(timer) => Waited::Still(Arriving { timer, ..arriving }),
-    }
+    let timer = terms.t4.tick(arriving.timer)?;
+    Some(Arriving { timer, ..arriving })
 }
 
 // Whether a block has W, stream and function of a message.

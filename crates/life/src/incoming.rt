@@ -5,7 +5,7 @@ ghost use Rattle.place.specs.Incoming.{begun_by, ended_at, fresh_incoming, incom
 use crate::arriving;
 use crate::fate::fate_of;
 use header::Header;
-use place::{Arriving, End, Fate, Incoming, IncomingStage, Waited};
+use place::{Arriving, End, Fate, Incoming, IncomingStage};
 use settings::Terms;
 
 pub fn fresh() -> Incoming
@@ -120,8 +120,8 @@ fn open_tick(incoming: Incoming, terms: Terms, arriving: Arriving) -> Incoming
     ensures { result ≡ open_tick terms incoming arriving }
 {
     match arriving::tick(arriving, terms) {
-        Waited::Broken => at(incoming, IncomingStage::Free),
-        Waited::Still(arriving) => at(incoming, IncomingStage::Open(arriving)),
+        None => at(incoming, IncomingStage::Free),
+        Some(arriving) => at(incoming, IncomingStage::Open(arriving)),
     }
 }
 

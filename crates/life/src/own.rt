@@ -5,8 +5,8 @@ ghost use Rattle.place.specs.Own.{acknowledged, await_tick, first_out, fresh_own
 use crate::arriving;
 use crate::fate::{begins_reply, fate_of};
 use header::Header;
-use place::{Arriving, Fate, Own, OwnStage, Reply, Standing, Verdict, Waited};
-use settings::{Terms, Timer};
+use place::{Arriving, Fate, Own, OwnStage, Reply, Standing, Verdict};
+use settings::Terms;
 
 // One function is the next after the other. None is next after 255.
 fn follows(function: u8, before: u8) -> bool
@@ -189,8 +189,8 @@ fn await_tick(own: Own, terms: Terms, timer: u32) -> Own
     ensures { result ≡ await_tick terms own timer }
 {
     match terms.t3.tick(timer) {
-        Timer::RunsOut => ended(own, Verdict::NoReply),
-        Timer::Runs(timer) => at(own, OwnStage::Awaiting { timer }),
+        None => ended(own, Verdict::NoReply),
+        Some(timer) => at(own, OwnStage::Awaiting { timer }),
     }
 }
 
@@ -199,8 +199,8 @@ fn reply_tick(own: Own, terms: Terms, arriving: Arriving) -> Own
     ensures { result ≡ reply_tick terms own arriving }
 {
     match arriving::tick(arriving, terms) {
-        Waited::Broken => ended(own, Verdict::Broken),
-        Waited::Still(arriving) => at(own, OwnStage::Replying(arriving)),
+        None => ended(own, Verdict::Broken),
+        Some(arriving) => at(own, OwnStage::Replying(arriving)),
     }
 }
 

@@ -31,14 +31,14 @@ use Rattle.exchange.specs.Asked.{Asked}
 -- ---- refusals 1 to 3
 
 through_gate : (g : Result Unit Refusal) (P : Left → Type 0) (u : Link) (room o : List ℕ) (l : Left)
-    → ((r : Refusal) → g ≡ Err r → P (left (refused_as u r) room o)) → (g ≡ (Ok tt) → P l) → P (through g u room o l)
+    → ((r : Refusal) → g ≡ Err r → P (left (refused_as u r) room o)) → (g ≡ Ok tt → P l) → P (through g u room o l)
 through_gate (Ok tt) P u room o l shut open' = open' refl
 through_gate (Err r) P u room o l shut open' = shut r refl
 
 -- a call is refused and leaves all as it was, or goes through
 pub by_gate : (P : Left → Type 0) (u : Link) (room o : List ℕ) (l : Left)
     → ((r : Refusal) → gate_of u (length room) (length o) ≡ Err r → P (left (refused_as u r) room o))
-    → (gate_of u (length room) (length o) ≡ (Ok tt) → P l) → P (gated u room o l)
+    → (gate_of u (length room) (length o) ≡ Ok tt → P l) → P (gated u room o l)
 by_gate P u room o l shut open' = through_gate (gate_of u (length room) (length o)) P u room o l shut open'
 
 -- one that goes through is lent 36,864 bytes
@@ -46,7 +46,7 @@ abbrev Lent : ℕ → Result Unit Refusal → Type 0
 Lent n (Ok tt) = n ≡ 36864
 Lent n (Err r) = Unit {0}
 
-pub open_lent : (u : Link) (n o : ℕ) → gate_of u n o ≡ (Ok tt) → n ≡ 36864
+pub open_lent : (u : Link) (n o : ℕ) → gate_of u n o ≡ Ok tt → n ≡ 36864
 unfolding gate_of room_fits
 open_lent u n o e =
     subst (Lent n) e

@@ -2,8 +2,7 @@
 // `main` adds it.
 use crate::show::Hex;
 use crate::{show, text, traffic, trial};
-use block::{Read, Refusal, Written};
-use cut::Cut;
+use block::Refusal;
 use header::Header;
 use std::io;
 
@@ -35,12 +34,12 @@ fn read(rt: &impl Print, field: &[u8]) -> io::Result<()> {
         return show::unreadable(rt);
     };
     match codec::read_block(bytes) {
-        Read::Block { header, .. } => {
+        Ok(block) => {
             print!(rt; "0")?;
-            show_header(rt, header)?;
+            show_header(rt, block.header)?;
             print!(rt; " {}", Hex(codec::block_data(bytes)))
         }
-        Read::Refused(why) => show_refusal(rt, why),
+        Err(why) => show_refusal(rt, why),
     }
 }
 
@@ -87,8 +86,8 @@ fn write_bytes(rt: &impl Print, length: usize, front: &[u8], out: &mut [u8]) -> 
         return show::unreadable(rt);
     };
     match codec::write_block(length, Header::from_bytes(*ten), data, out) {
-        Written::Bytes(n) => show_written(rt, out, n),
-        Written::Refused(why) => {
+        Ok(n) => show_written(rt, out, n),
+        Err(why) => {
             show_refusal(rt, why)?;
             print!(rt; " - {}", changed(out))
         }
@@ -139,11 +138,10 @@ fn message_header() -> Header {
 // Prints a space, and NUMBER:E:START:LENGTH of block `k`.
 fn show_cut(rt: &impl Print, length: usize, k: usize) -> io::Result<()> {
     match cut::cut_block(message_header(), length, k) {
-        Cut::Block {
-            header,
-            start,
-            length: part,
-        } => print!(rt; " {}:{}:{start}:{part}", header.number, u8::from(header.e)),
-        Cut::NoBlock => print!(rt; " -"),
+        Some(cut) => {
+            let e = u8::from(cut.header.e);
+            print!(rt; " {}:{e}:{}:{}", cut.header.number, cut.start, cut.length)
+        }
+        None => print!(rt; " -"),
     }
 }

@@ -44,12 +44,12 @@ use crate::show::Hex;
 use crate::text::Role;
 use crate::{run, show, text};
 use exchange::{
-    Asked, Changed, Exchange, Flags, IncomingReading, Judged, Outgoing, OwnReading, Primary,
-    ReplyStage, Requested,
+    Changed, Exchange, Flags, IncomingReading, Judged, Outgoing, OwnReading, Primary, ReplyStage,
+    Requested,
 };
 use place::{Reply, Standing};
 use room::Message;
-use settings::{Agreed, MessagePanel, Seconds, Terms};
+use settings::{MessagePanel, Seconds, Terms};
 use std::io;
 
 // A call.
@@ -103,11 +103,11 @@ pub(crate) fn answer(rt: &impl Print, fields: &[u8]) -> io::Result<()> {
         return show::unreadable(rt);
     };
     match panel.terms() {
-        Agreed::Terms(terms) => {
+        Some(terms) => {
             print!(rt; "0")?;
             run_calls(rt, terms, last, calls)
         }
-        Agreed::OutOfRange => print!(rt; "4"),
+        None => print!(rt; "4"),
     }
 }
 
@@ -293,11 +293,11 @@ fn make(
 // A request to send a message.
 fn asked(rt: &impl Print, requested: Requested) -> io::Result<Exchange> {
     match requested.asked {
-        Asked::Taken(place) => {
+        Ok(place) => {
             print!(rt; "{place}")?;
             show_outgoing(rt, clerk::outgoing(requested.exchange))?;
         }
-        Asked::Refused(why) => print!(rt; "{}", clerk::refusal_number(why))?,
+        Err(why) => print!(rt; "{}", clerk::refusal_number(why))?,
     }
     Ok(requested.exchange)
 }
@@ -370,8 +370,8 @@ fn tick_on(
 // A release.
 fn released(rt: &impl Print, requested: Requested) -> io::Result<Exchange> {
     match requested.asked {
-        Asked::Taken(_) => print!(rt; "0")?,
-        Asked::Refused(why) => print!(rt; "{}", clerk::refusal_number(why))?,
+        Ok(_) => print!(rt; "0")?,
+        Err(why) => print!(rt; "{}", clerk::refusal_number(why))?,
     }
     Ok(requested.exchange)
 }
@@ -429,20 +429,14 @@ fn show_look(
 }
 
 // Shows an own place.
-fn show_own(rt: &impl Print, reading: OwnReading) -> io::Result<()> {
-    match reading {
-        OwnReading::NoPlace => print!(rt; "9"),
-        OwnReading::Place {
-            primary,
-            standing,
-            reply,
-        } => {
-            show_standing(rt, standing)?;
-            let ten = primary.bytes();
-            print!(rt; ":{}", Hex(&ten))?;
-            show_reply(rt, reply)
-        }
-    }
+fn show_own(rt: &impl Print, reading: Option<OwnReading>) -> io::Result<()> {
+    let Some(own) = reading else {
+        return print!(rt; "9");
+    };
+    show_standing(rt, own.standing)?;
+    let ten = own.primary.bytes();
+    print!(rt; ":{}", Hex(&ten))?;
+    show_reply(rt, own.reply)
 }
 
 // Shows a verdict, or 0 as long as it has not fallen.
@@ -461,20 +455,14 @@ fn show_reply(rt: &impl Print, reply: Reply) -> io::Result<()> {
 }
 
 // Shows an incoming place.
-fn show_incoming(rt: &impl Print, reading: IncomingReading) -> io::Result<()> {
-    match reading {
-        IncomingReading::NoPlace => print!(rt; "9"),
-        IncomingReading::Place {
-            primary,
-            length,
-            complete,
-            reply,
-        } => {
-            let ten = primary.bytes();
-            let stage = stage_name(reply);
-            print!(rt; "{}:{}:{stage}:{length}", Hex(&ten), u8::from(complete))
-        }
-    }
+fn show_incoming(rt: &impl Print, reading: Option<IncomingReading>) -> io::Result<()> {
+    let Some(incoming) = reading else {
+        return print!(rt; "9");
+    };
+    let ten = incoming.primary.bytes();
+    let complete = u8::from(incoming.complete);
+    let stage = stage_name(incoming.reply);
+    print!(rt; "{}:{complete}:{stage}:{}", Hex(&ten), incoming.length)
 }
 
 // How our reply to an incoming message stands.

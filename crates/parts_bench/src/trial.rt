@@ -21,7 +21,7 @@ use crate::show::Hex;
 use crate::text::Role;
 use crate::{show, text};
 use line::{Line, Out, Remark, Step, Told};
-use settings::{Fifths, Limits, Panel, Taken, Tenths};
+use settings::{Fifths, Limits, Panel, Tenths};
 use std::io;
 
 // The line amid the calls of a field, and whether one of them has shown something.
@@ -38,11 +38,11 @@ pub(crate) fn answer(rt: &impl Print, fields: &[u8]) -> io::Result<()> {
         return show::unreadable(rt);
     };
     match panel.limits() {
-        Taken::Limits(limits) => {
+        Some(limits) => {
             print!(rt; "0")?;
             run(rt, limits, calls)
         }
-        Taken::OutOfRange => print!(rt; "4"),
+        None => print!(rt; "4"),
     }
 }
 

@@ -2,16 +2,11 @@
 ghost use Rattle.std.specs.Prelude.{◌≡◌, set};
 ghost use Rattle.table.specs.Find.{first_of};
 
-use table::Found;
-
 // The lowest place that is marked.
-pub(crate) fn first(marks: [bool; 4]) -> Found
+pub(crate) fn first(marks: [bool; 4]) -> Option<usize>
     ensures { result ≡ first_of marks }
 {
-    match marks.iter().position(|mark| *mark) {
-        Some(place) => Found::At(place),
-        None => Found::Nowhere,
-    }
+    marks.iter().position(|mark| *mark)
 }
 
 // The places with one put anew; outside of them nothing is put.

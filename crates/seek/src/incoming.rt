@@ -7,7 +7,6 @@ use header::Header;
 use life::incoming;
 use place::Incoming;
 use settings::Terms;
-use table::Found;
 
 pub fn incoming_at(incoming: [Incoming; 4], place: usize) -> Incoming
     ensures { result ≡ incoming_at incoming place }
@@ -23,7 +22,7 @@ pub fn incoming_put(incoming: [Incoming; 4], place: usize, put: Incoming) -> [In
 
 // Rule 6: "the lowest free incoming place".
 #[tactic(auto, unfolding(table::specs::Incoming::free_incoming))]
-pub fn free_incoming(incoming: [Incoming; 4]) -> Found
+pub fn free_incoming(incoming: [Incoming; 4]) -> Option<usize>
     ensures { result ≡ free_incoming incoming }
 {
     first(incoming.map(incoming::is_free))
@@ -31,7 +30,7 @@ pub fn free_incoming(incoming: [Incoming; 4]) -> Found
 
 // Rule 3: the place of the open message that a block continues.
 #[tactic(auto, unfolding(table::specs::Incoming::message_for))]
-pub fn message_for(incoming: [Incoming; 4], header: Header) -> Found
+pub fn message_for(incoming: [Incoming; 4], header: Header) -> Option<usize>
     ensures { result ≡ message_for incoming header }
 {
     first(incoming.map(|place| incoming::takes(place, header)))
@@ -47,7 +46,7 @@ fn alike(place: Incoming, header: Header) -> bool
 
 // Rule 6: the place of an open message with the system bytes of a new one.
 #[tactic(auto, unfolding(table::specs::Incoming::open_alike))]
-pub fn open_alike(incoming: [Incoming; 4], header: Header) -> Found
+pub fn open_alike(incoming: [Incoming; 4], header: Header) -> Option<usize>
     ensures { result ≡ open_alike incoming header }
 {
     first(incoming.map(|place| alike(place, header)))

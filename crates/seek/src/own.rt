@@ -7,7 +7,6 @@ use header::Header;
 use life::own;
 use place::Own;
 use settings::Terms;
-use table::Found;
 
 pub fn own_at(own: [Own; 4], place: usize) -> Own
     ensures { result ≡ own_at own place }
@@ -23,7 +22,7 @@ pub fn own_put(own: [Own; 4], place: usize, put: Own) -> [Own; 4]
 
 // "A primary takes the lowest free own place."
 #[tactic(auto, unfolding(table::specs::Own::free_own))]
-pub fn free_own(own: [Own; 4]) -> Found
+pub fn free_own(own: [Own; 4]) -> Option<usize>
     ensures { result ≡ free_own own }
 {
     first(own.map(own::is_free))
@@ -31,7 +30,7 @@ pub fn free_own(own: [Own; 4]) -> Found
 
 // Rule 3: the place of the reply that a block is of.
 #[tactic(auto, unfolding(table::specs::Own::reply_for))]
-pub fn reply_for(own: [Own; 4], header: Header) -> Found
+pub fn reply_for(own: [Own; 4], header: Header) -> Option<usize>
     ensures { result ≡ reply_for own header }
 {
     first(own.map(|place| own::takes(place, header)))

@@ -18,8 +18,6 @@ use Rattle.cut.specs.declared.Cut.{Cut}
 use Rattle.cut.proofs.Cutting.{cut_blocks}
 use Rattle.block.specs.Block.{Writing, writing, write_of, block_of, framed, output_short, length_good, taken_write}
 use Rattle.block.specs.declared.Refusal.{Refusal}
-use Rattle.block.specs.declared.Written.{Written}
-use Rattle.block.specs.declared.Written.TheVariants as written
 use Rattle.block.proofs.Frames.{frame_length}
 use Rattle.room.specs.Room.{lies, bytes_in}
 use Rattle.room.specs.declared.Message.{Message}
@@ -33,7 +31,7 @@ use Rattle.exchange.specs.declared.Outgoing.{Outgoing}
 use Rattle.exchange.specs.declared.Outgoing.TheVariants as outgoing
 use Rattle.link.specs.Run.{codes, bytes_by, block_in}
 use Rattle.unit.specs.Put.{put_at}
-use Rattle.std.specs.Prelude.{Option}
+use Rattle.std.specs.Prelude.{Option, Result, Ok, Err}
 
 -- ---- codes
 
@@ -82,7 +80,7 @@ codes_length a b = length-append (bytes_out [] a) (bytes_out [] b)
 
 -- a header and at most 244 data bytes are written, whatever is in the output
 whole_write : (h : Header) (d bs : List ℕ) → length d ≤ 244 → 257 ≤ length bs
-    → write_of (10 + length d) h d bs ≡ writing (written.Bytes (10 + length d + 3)) (on_front (block_of h d) bs)
+    → write_of (10 + length d) h d bs ≡ writing (Ok (10 + length d + 3)) (on_front (block_of h d) bs)
 unfolding write_of output_short length_good taken_write
 whole_write h d bs k room =
     simp (le-ltb (length bs) 257 room, le-leb 10 (10 + length d) (omega arith), le-leb (10 + length d) 254 (omega arith), eq-eqb (10 + length d) (10 + length d) refl)
@@ -97,21 +95,21 @@ block_length h d =
     let all : length (block_of h d) ≡ length (header_bytes h ++ d) + 3 = frame_length (header_bytes h ++ d) (checksum_of (header_bytes h ++ d)) in
     all ∙ (omega (arith, length-append (header_bytes h) d, ten_bytes h))
 
-abbrev count_of : Written → ℕ
-count_of (written.Bytes n) = n
-count_of (written.Refused r) = 0
+abbrev count_of : Result ℕ Refusal → ℕ
+count_of (Ok n) = n
+count_of (Err r) = 0
 
 -- what was written is the block
-pub wrote : (h : Header) (d bs now : List ℕ) (n : ℕ) {w : Written} → length d ≤ 244 → 257 ≤ length bs → writing w now ≡ write_of (10 + length d) h d bs
-    → w ≡ written.Bytes n → (n ≡ length (block_of h d)) × (now ≡ on_front (block_of h d) bs)
+pub wrote : (h : Header) (d bs now : List ℕ) (n : ℕ) {w : Result ℕ Refusal} → length d ≤ 244 → 257 ≤ length bs → writing w now ≡ write_of (10 + length d) h d bs
+    → w ≡ Ok n → (n ≡ length (block_of h d)) × (now ≡ on_front (block_of h d) bs)
 wrote h d bs now n k room e q =
     let all = e ∙ whole_write h d bs k room in (
       ap count_of (sym q ∙ ap (λ (x : Writing). x.answer) all) ∙ sym (block_length h d),
       ap (λ (x : Writing). x.out) all,
     )
 
-pub not_refused : {A : Type 0} (h : Header) (d bs now : List ℕ) (r : Refusal) {w : Written} → length d ≤ 244 → 257 ≤ length bs
-    → writing w now ≡ write_of (10 + length d) h d bs → w ≡ written.Refused r → A
+pub not_refused : {A : Type 0} (h : Header) (d bs now : List ℕ) (r : Refusal) {w : Result ℕ Refusal} → length d ≤ 244 → 257 ≤ length bs
+    → writing w now ≡ write_of (10 + length d) h d bs → w ≡ Err r → A
 not_refused h d bs now r k room e q =
     let all = e ∙ whole_write h d bs k room in
     let zero : 0 ≡ 10 + length d + 3 = ap count_of (sym q ∙ ap (λ (x : Writing). x.answer) all) in

@@ -1,8 +1,10 @@
 -- How the functions' proofs put a call's answer and memory together: the gate, the short ways, the course, a request. Assumes nothing.
+use Rattle.std.specs.Prelude.{Result, Ok, Err}
 use Prim.Native.Nat.{ℕ, ◌-◌, ◌<◌}
 use mathlib.Core.Path.{◌≡◌, refl, sym, ap, ◌∙◌}
 use mathlib.Core.Bool.{Bool, true, false, false≢true}
 use mathlib.Core.List.{List, []}
+use mathlib.Core.Logic.{◌⊎◌, inl, inr}
 use native.Mathlib.Omega.{arith}
 use lib.ListN.{length, take, drop}
 use borrow.Author.Tests.{eq-eqb}
@@ -42,8 +44,6 @@ use Rattle.link.specs.declared.Note.{Note}
 use Rattle.link.specs.declared.Note.TheVariants as note
 use Rattle.link.specs.declared.Refusal.{Refusal}
 use Rattle.link.specs.declared.Answer.{Answer}
-use Rattle.link.specs.declared.Gate.{Gate}
-use Rattle.link.specs.declared.Gate.TheVariants as gate
 use Rattle.link.specs.declared.Link.{Link}
 use Rattle.unit.specs.Settle.{settled_as, settled_out}
 use Rattle.unit.specs.Short.{says_nothing, is_quiet}
@@ -75,10 +75,10 @@ pub in_range_parts : (u : Link) → link_in_range (parts_of u.settings u.line u.
 unfolding link_in_range
 in_range_parts u = refl
 
-pub opens : (u : Link) (room o : List ℕ) (l : Left) {g : Gate} {x : Left} → g ≡ gate_of u (length room) (length o) → g ≡ gate.Open → x ≡ l → x ≡ gated u room o l
+pub opens : (u : Link) (room o : List ℕ) (l : Left) {g : Result Unit Refusal} {x : Left} → g ≡ gate_of u (length room) (length o) → g ≡ Ok tt → x ≡ l → x ≡ gated u room o l
 opens u room o l e q p = rw (sym e ∙ q) p
 
-pub shuts : (u : Link) (room o : List ℕ) (l : Left) (r : Refusal) {g : Gate} {a : Answer} → g ≡ gate_of u (length room) (length o) → g ≡ gate.Shut r
+pub shuts : (u : Link) (room o : List ℕ) (l : Left) (r : Refusal) {g : Result Unit Refusal} {a : Answer} → g ≡ gate_of u (length room) (length o) → g ≡ Err r
     → a ≡ refused_as u r → left a room o ≡ gated u room o l
 shuts u room o l r e q p = rw (sym e ∙ q) (closes room p refl)
 
@@ -93,11 +93,9 @@ pub step_on : (ticks : Bool) (u : Link) (room o : List ℕ) {s t : Step} {x : Le
 step_on ticks u room o e p = p ∙ ap (λ (s : Step). stepped ticks u (heard s u.received) room o) e
 
 -- a byte that puts no block out, and one that does
-pub on_nothing : (p : Out) (block l : Left) {x : Left} → p ≡ out.Nothing → x ≡ l → x ≡ unless_block p block l
-on_nothing p block l e q = q ∙ sym (ap (λ (z : Out). unless_block z block l) e)
-
-pub on_code : (p : Out) (block l : Left) (c : ℕ) {x : Left} → p ≡ out.Code c → x ≡ l → x ≡ unless_block p block l
-on_code p block l c e q = q ∙ sym (ap (λ (z : Out). unless_block z block l) e)
+pub on_no_block : (p : Out) (block l : Left) {x : Left} → (p ≡ out.Nothing) ⊎ ((c : ℕ) × p ≡ out.Code c) → x ≡ l → x ≡ unless_block p block l
+on_no_block p block l (inl e) q = q ∙ sym (ap (λ (z : Out). unless_block z block l) e)
+on_no_block p block l (inr e) q = q ∙ sym (ap (λ (z : Out). unless_block z block l) e.1)
 
 pub on_block : (p : Out) (block l : Left) {x : Left} → p ≡ out.Block → x ≡ block → x ≡ unless_block p block l
 on_block p block l e q = q ∙ sym (ap (λ (z : Out). unless_block z block l) e)

@@ -8,25 +8,22 @@ ghost use Rattle.link.specs.State.{gate_of, link_in_range, parts_of};
 use crate::setup::settings_in_range;
 use exchange::Exchange;
 use line::Line;
-use link::{Gate, Link, Refusal, Settings};
+use link::{Link, Refusal, Settings};
 
 // Whether every number is in its range (docs/STATE.md).
+#[tactic(auto, unfolding(link::specs::State::link_in_range, settings::specs::Panel::between))]
 fn fits(settings: Settings, line: Line, exchange: Exchange, block: u16) -> bool
     ensures { result ≡ link_in_range (parts_of settings line exchange block) }
 {
-    if 1 <= block {
-        if block <= cut::MOST_BLOCKS {
-            if settings_in_range(settings) {
-                if line.in_range() {
-                    return desk::in_range(exchange);
-                }
-            }
-        }
-    }
-    false
+    1 <= block
+        && block <= cut::MOST_BLOCKS
+        && settings_in_range(settings)
+        && line.in_range()
+        && desk::in_range(exchange)
 }
 
 // `room` and `out` are how many bytes of each are lent.
+#[tactic(auto, unfolding(link::specs::State::gate_of, link::specs::State::output_short, link::specs::State::room_fits))]
 pub(crate) fn admits(
     settings: Settings,
     line: Line,
@@ -34,37 +31,40 @@ pub(crate) fn admits(
     block: u16,
     room: usize,
     out: usize,
-) -> Gate
+) -> Result<(), Refusal>
     ensures { result ≡ gate_of (parts_of settings line exchange block) room out }
 {
     if out < 257 {
-        return Gate::Shut(Refusal::OutputShort);
+        return Err(Refusal::OutputShort);
     }
     if room != 36864 {
-        return Gate::Shut(Refusal::RoomSize);
+        return Err(Refusal::RoomSize);
     }
     if fits(settings, line, exchange, block) {
-        return Gate::Open;
+        return Ok(());
     }
-    Gate::Shut(Refusal::State)
+    Err(Refusal::State)
 }
 
 // The same of a whole unit, where a copy of it does not matter.
-pub(crate) fn gate(link: Link, room: usize, out: usize) -> Gate
+#[tactic(auto, unfolding(link::specs::State::gate_of, link::specs::State::link_in_range))]
+pub(crate) fn gate(link: Link, room: usize, out: usize) -> Result<(), Refusal>
     ensures { result ≡ gate_of link room out }
 {
-    let settings = link.settings;
-    let line = link.line;
-    let exchange = link.exchange;
-    admits(settings, line, exchange, link.block, room, out)
+    admits(
+        link.settings,
+        link.line,
+        link.exchange,
+        link.block,
+        room,
+        out,
+    )
 }
 
 // And for a call that is lent no memory.
+#[tactic(auto, unfolding(link::specs::State::link_in_range))]
 pub(crate) fn in_range(link: Link) -> bool
     ensures { result ≡ link_in_range link }
 {
-    let settings = link.settings;
-    let line = link.line;
-    let exchange = link.exchange;
-    fits(settings, line, exchange, link.block)
+    fits(link.settings, link.line, link.exchange, link.block)
 }

@@ -24,8 +24,7 @@ pub fn outcome_number(outcome: Outcome) -> u8
     ensures { result ≡ outcome_number outcome }
 {
     match outcome {
-        Outcome::Done => 0,
-        Outcome::Taken(_) => 0,
+        Outcome::Done | Outcome::Taken(_) => 0,
         Outcome::Refused(refusal) => refusal_number(refusal),
     }
 }
@@ -35,10 +34,7 @@ fn fault_number(fault: Fault) -> u8
 {
     match fault {
         Fault::Length => 30,
-        Fault::Sum {
-            received: _,
-            counted: _,
-        } => 31,
+        Fault::Sum { .. } => 31,
     }
 }
 
@@ -47,8 +43,7 @@ pub(crate) fn note_of(remark: Remark) -> Note
     ensures { result ≡ note_by remark }
 {
     match remark {
-        Remark::Nothing => Note::Nothing,
-        Remark::GaveWay => Note::Nothing,
+        Remark::Nothing | Remark::GaveWay => Note::Nothing,
         Remark::NoLength => Note::NoLength,
         Remark::Gap => Note::Gap,
         Remark::Bad(fault) => Note::Bad(fault),

@@ -10,45 +10,37 @@ use crate::admit::{admits, gate};
 use crate::courier::settles;
 use crate::state::refused;
 use crate::step::{is_quiet, onward, unless_block};
-use line::{Out, Remark, Told};
-use link::{Answer, Gate, Link, Note, Outcome};
+use line::{Out, Remark, Step, Told};
+use link::{Answer, Link, Note, Outcome};
 
 // A byte has come.
 pub fn byte(mut link: Link, b: u8, room: &mut [u8], out: &mut [u8]) -> Answer
     ensures { left result room.new out.new ≡ byte_call link b room.old out.old }
 {
-    let settings = link.settings;
-    let before = link.line;
-    let exchange = link.exchange;
     match admits(
-        settings,
-        before,
-        exchange,
+        link.settings,
+        link.line,
+        link.exchange,
         link.block,
         room.len(),
         out.len(),
     ) {
-        Gate::Open => {
-            let limits = link.settings.limits;
-            let step = before.byte(limits, b, &mut link.received);
-            let line = step.line;
-            let put = step.out;
-            let told = step.told;
-            let remark = step.remark;
-            link.line = line;
-            if is_quiet(put, told, remark) {
+        Ok(()) => {
+            let step = link.line.byte(link.settings.limits, b, &mut link.received);
+            link.line = step.line;
+            if is_quiet(step) {
                 return settles(
                     link,
-                    put,
+                    step.out,
                     Outcome::Done,
                     Note::Nothing,
                     desk::no_flags(),
                     out,
                 );
             }
-            unless_block(link, put, told, remark, room, out)
+            unless_block(link, step, room, out)
         }
-        Gate::Shut(refusal) => refused(link, refusal),
+        Err(refusal) => refused(link, refusal),
     }
 }
 
@@ -56,40 +48,30 @@ pub fn byte(mut link: Link, b: u8, room: &mut [u8], out: &mut [u8]) -> Answer
 pub fn tick(mut link: Link, room: &mut [u8], out: &mut [u8]) -> Answer
     ensures { left result room.new out.new ≡ tick_call link room.old out.old }
 {
-    let settings = link.settings;
-    let before = link.line;
-    let exchange = link.exchange;
     match admits(
-        settings,
-        before,
-        exchange,
+        link.settings,
+        link.line,
+        link.exchange,
         link.block,
         room.len(),
         out.len(),
     ) {
-        Gate::Open => {
-            let limits = link.settings.limits;
-            let step = before.tick(limits);
-            let line = step.line;
-            let put = step.out;
-            let told = step.told;
-            let remark = step.remark;
-            link.line = line;
-            if is_quiet(put, told, remark) {
-                if clerk::is_still(exchange) {
-                    return settles(
-                        link,
-                        put,
-                        Outcome::Done,
-                        Note::Nothing,
-                        desk::no_flags(),
-                        out,
-                    );
-                }
+        Ok(()) => {
+            let step = link.line.tick(link.settings.limits);
+            link.line = step.line;
+            if is_quiet(step) && clerk::is_still(link.exchange) {
+                return settles(
+                    link,
+                    step.out,
+                    Outcome::Done,
+                    Note::Nothing,
+                    desk::no_flags(),
+                    out,
+                );
             }
-            onward(link, put, true, told, remark, room, out)
+            onward(link, step, true, room, out)
         }
-        Gate::Shut(refusal) => refused(link, refusal),
+        Err(refusal) => refused(link, refusal),
     }
 }
 
@@ -98,20 +80,16 @@ pub fn drained(mut link: Link, room: &mut [u8], out: &mut [u8]) -> Answer
     ensures { left result room.new out.new ≡ drained_call link room.old out.old }
 {
     match gate(link, room.len(), out.len()) {
-        Gate::Open => {
-            let before = link.line;
-            let line = before.drained();
-            link.line = line;
-            onward(
-                link,
-                Out::Nothing,
-                false,
-                Told::Nothing,
-                Remark::Nothing,
-                room,
-                out,
-            )
+        Ok(()) => {
+            link.line = link.line.drained();
+            let step = Step {
+                line: link.line,
+                out: Out::Nothing,
+                told: Told::Nothing,
+                remark: Remark::Nothing,
+            };
+            onward(link, step, false, room, out)
         }
-        Gate::Shut(refusal) => refused(link, refusal),
+        Err(refusal) => refused(link, refusal),
     }
 }

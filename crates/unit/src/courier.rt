@@ -17,14 +17,11 @@ fn goes_on(told: Told, line: Line, block: u16) -> Carried
     ensures { result ≡ goes_on told line block }
 {
     match told {
-        Told::Nothing => Carried { line, block },
-        Told::PutOut => Carried { line, block },
         Told::Sent => Carried {
             line: line.ask(),
             block: block + 1,
         },
-        Told::Failed => Carried { line, block },
-        Told::Up(_) => Carried { line, block },
+        Told::Nothing | Told::PutOut | Told::Failed | Told::Up(_) => Carried { line, block },
     }
 }
 
@@ -43,24 +40,20 @@ fn courier(
     requires { block ≤ most_blocks }
     ensures { result ≡ courier_of before after told line block room.now }
 {
-    if desk::is_message(before) {
-        if desk::is_message(after) {
-            if desk::same_message(before, after) {
-                return goes_on(told, line, block);
-            }
-            return Carried {
-                line: line.ask(),
-                block: 1,
-            };
-        }
+    let was = desk::is_message(before);
+    let is = desk::is_message(after);
+    if was && is && desk::same_message(before, after) {
+        return goes_on(told, line, block);
+    }
+    if is {
         return Carried {
-            line: line.withdraw(),
+            line: line.ask(),
             block: 1,
         };
     }
-    if desk::is_message(after) {
+    if was {
         return Carried {
-            line: line.ask(),
+            line: line.withdraw(),
             block: 1,
         };
     }
@@ -79,12 +72,9 @@ pub(crate) fn settles(
     requires { 257 ≤ length out.old }
     ensures { (result ≡ settled_as link put outcome note flags) × (out.new ≡ settled_out link put out.old) }
 {
-    let line = link.line;
-    let end = line.settle();
-    let line = end.line;
-    let code = end.out;
-    link.line = line;
-    let count = put_codes(out, put, code);
+    let end = link.line.settle();
+    link.line = end.line;
+    let count = put_codes(out, put, end.out);
     answers(link, count, outcome, note, flags)
 }
 
@@ -102,17 +92,16 @@ pub(crate) fn course(
     requires { (257 ≤ length out.old) × (link.block ≤ most_blocks) }
     ensures { left result room.now out.new ≡ Rattle.link.specs.Run.course link put told midway outcome room.now out.old }
 {
-    let before = link.exchange;
-    let after = midway.exchange;
-    let note = midway.note;
-    let flags = midway.flags;
-    let was = before.sending;
-    let is = after.sending;
-    let line = link.line;
-    let carried = courier(was, is, told, line, link.block, room);
-    let line = carried.line;
-    link.line = line;
-    link.exchange = after;
+    let carried = courier(
+        link.exchange.sending,
+        midway.exchange.sending,
+        told,
+        link.line,
+        link.block,
+        room,
+    );
+    link.line = carried.line;
+    link.exchange = midway.exchange;
     link.block = carried.block;
-    settles(link, put, outcome, note, flags, out)
+    settles(link, put, outcome, midway.note, midway.flags, out)
 }

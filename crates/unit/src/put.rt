@@ -7,8 +7,6 @@ ghost use Rattle.exchange.specs.Reports.{report_body, report_header};
 ghost use Rattle.link.specs.Run.{block_in, codes};
 ghost use Rattle.unit.specs.Put.{put_at};
 
-use block::Written;
-use cut::Cut;
 use exchange::Outgoing;
 use header::Header;
 use line::Out;
@@ -20,12 +18,11 @@ fn put_code(out: &mut [u8], at: usize, code: Out) -> usize
     ensures { (result ≡ length (bytes_out [] code)) × (out.new ≡ put_at out.old at code) }
 {
     match code {
-        Out::Nothing => 0,
         Out::Code(c) => {
             out[at] = c;
             1
         }
-        Out::Block => 0,
+        Out::Nothing | Out::Block => 0,
     }
 }
 
@@ -45,8 +42,8 @@ fn put_block(out: &mut [u8], header: Header, data: &[u8]) -> usize
     ensures { (result ≡ length (block_of header «data».now)) × (out.new ≡ on_front (block_of header «data».now) out.old) }
 {
     match codec::write_block(10 + data.len(), header, data, out) {
-        Written::Bytes(count) => count,
-        Written::Refused(_) => 0,
+        Ok(count) => count,
+        Err(_) => 0,
     }
 }
 
@@ -62,7 +59,7 @@ fn report_header(device: u16, function: u8, number: u16) -> Header
         function,
         e: true,
         number: 1,
-        system: number as u32,
+        system: u32::from(number),
     }
 }
 
@@ -92,17 +89,13 @@ pub(crate) fn put_message(
     match message {
         Outgoing::Nothing => 0,
         Outgoing::Message { header, length } => {
-            match cut::cut_block(header, length as usize, k as usize) {
-                Cut::Block {
-                    header,
-                    start,
-                    length,
-                } => put_block(
+            match cut::cut_block(header, usize::from(length), usize::from(k)) {
+                Some(cut) => put_block(
                     out,
-                    header,
-                    store::bytes_of(room, Message::Send, start, length),
+                    cut.header,
+                    store::bytes_of(room, Message::Send, cut.start, cut.length),
                 ),
-                Cut::NoBlock => 0,
+                None => 0,
             }
         }
         Outgoing::Report { function, number } => put_report(out, device, shown, function, number),

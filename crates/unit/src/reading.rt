@@ -6,20 +6,18 @@ use exchange::{IncomingReading, OwnReading, Sending};
 use link::Link;
 use room::Message;
 
-// An own place: the primary's header, how it stands, and what is kept of its reply.
-pub fn own(link: Link, place: usize) -> OwnReading
+// An own place: the primary's header, how it stands, and what is kept of its reply; nothing of a free place, or of one above 3.
+pub fn own(link: Link, place: usize) -> Option<OwnReading>
     ensures { result ≡ own_of link place }
 {
-    let exchange = link.exchange;
-    desk::own_reading(exchange, place)
+    desk::own_reading(link.exchange, place)
 }
 
 // An incoming place: the header of its first block, how many data bytes are kept, whether it is complete, and our reply.
-pub fn incoming(link: Link, place: usize) -> IncomingReading
+pub fn incoming(link: Link, place: usize) -> Option<IncomingReading>
     ensures { result ≡ incoming_of link place }
 {
-    let exchange = link.exchange;
-    desk::incoming_reading(exchange, place)
+    desk::incoming_reading(link.exchange, place)
 }
 
 // What is kept of the reply in an own place, as a part of the room.
@@ -27,12 +25,13 @@ pub fn reply_data(link: Link, room: &[u8], place: usize) -> &[u8]
     ensures { result.now ≡ reply_data link room.now place }
 {
     match own(link, place) {
-        OwnReading::NoPlace => &room[0..0],
-        OwnReading::Place {
-            primary: _,
-            standing: _,
-            reply,
-        } => store::bytes_of(room, Message::Reply(place), 0, reply.length as usize),
+        Some(own) => store::bytes_of(
+            room,
+            Message::Reply(place),
+            0,
+            usize::from(own.reply.length),
+        ),
+        None => &room[..0],
     }
 }
 
@@ -41,13 +40,13 @@ pub fn incoming_data(link: Link, room: &[u8], place: usize) -> &[u8]
     ensures { result.now ≡ incoming_data link room.now place }
 {
     match incoming(link, place) {
-        IncomingReading::NoPlace => &room[0..0],
-        IncomingReading::Place {
-            primary: _,
-            length,
-            complete: _,
-            reply: _,
-        } => store::bytes_of(room, Message::Incoming(place), 0, length as usize),
+        Some(incoming) => store::bytes_of(
+            room,
+            Message::Incoming(place),
+            0,
+            usize::from(incoming.length),
+        ),
+        None => &room[..0],
     }
 }
 
@@ -55,31 +54,26 @@ pub fn incoming_data(link: Link, room: &[u8], place: usize) -> &[u8]
 pub fn is_sending(link: Link) -> bool
     ensures { result ≡ sending_of link }
 {
-    let exchange = link.exchange;
-    clerk::is_sending(exchange)
+    clerk::is_sending(link.exchange)
 }
 
 // Which message that is: a primary of an own place, a reply of an incoming one, or a report with its function and number.
 pub fn sending(link: Link) -> Sending
     ensures { result ≡ message_of link }
 {
-    let exchange = link.exchange;
-    exchange.sending
+    link.exchange.sending
 }
 
 // How many reports were dropped since the start.
 pub fn dropped(link: Link) -> u32
     ensures { result ≡ dropped_of link }
 {
-    let exchange = link.exchange;
-    let reports = exchange.reports;
-    reports.dropped
+    link.exchange.reports.dropped
 }
 
 // The last transaction number given, which a scheduler keeps for the next start: reports take numbers unasked.
 pub fn last_number(link: Link) -> u16
     ensures { result ≡ last_number_of link }
 {
-    let exchange = link.exchange;
-    exchange.numbers.last
+    link.exchange.numbers.last
 }

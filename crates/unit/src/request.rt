@@ -1,35 +1,37 @@
 // Requests: open a primary, reply, release (01, "Messages").
-ghost use Rattle.std.specs.Prelude.{◌≡◌, ◌≤◌, length};
+ghost use Rattle.std.specs.Prelude.{◌≡◌, ◌≤◌, cond, length};
 ghost use Rattle.cut.specs.Blocks.{most_blocks};
 ghost use Rattle.link.specs.Run.{left};
+ghost use Rattle.link.specs.State.{link_in_range, refused_as};
+ghost use Rattle.link.specs.declared.Refusal.TheVariants;
 ghost use Rattle.link.specs.Call.{requested_by, frees, open_call, release_incoming_call, release_own_call, reply_call};
 
 use crate::admit::{gate, in_range};
 use crate::courier::course;
 use crate::state::{answers, refused};
 use crate::told::untold;
-use exchange::{Asked, Exchange, Primary, Requested};
+use exchange::{Primary, Requested};
 use line::{Out, Told};
-use link::{Answer, Gate, Link, Note, Outcome, Refusal};
+use link::{Answer, Link, Note, Outcome, Refusal};
 
 // A message that was accepted is to be sent: the courier asks for its first block.
-fn asks(link: Link, asked: Asked, exchange: Exchange, room: &[u8], out: &mut [u8]) -> Answer
+fn asks(link: Link, requested: Requested, room: &[u8], out: &mut [u8]) -> Answer
     requires { (257 ≤ length out.old) × (link.block ≤ most_blocks) }
-    ensures { left result room.now out.new ≡ requested_by asked link exchange room.now out.old }
+    ensures { left result room.now out.new ≡ requested_by requested.asked link requested.exchange room.now out.old }
 {
-    match asked {
-        Asked::Taken(place) => {
+    match requested.asked {
+        Ok(place) => {
             course(
                 link,
                 Out::Nothing,
                 Told::Nothing,
-                untold(exchange, Note::Nothing),
+                untold(requested.exchange, Note::Nothing),
                 Outcome::Taken(place),
                 room,
                 out,
             )
         }
-        Asked::Refused(refusal) => refused(link, Refusal::Request(refusal)),
+        Err(refusal) => refused(link, Refusal::Request(refusal)),
     }
 }
 
@@ -38,14 +40,11 @@ pub fn open(link: Link, primary: Primary, data: &[u8], room: &mut [u8], out: &mu
     ensures { left result room.new out.new ≡ open_call link primary «data».now room.old out.old }
 {
     match gate(link, room.len(), out.len()) {
-        Gate::Open => {
-            let before = link.exchange;
-            let requested = clerk::open(before, link.settings.terms, primary, data, room);
-            let asked = requested.asked;
-            let after = requested.exchange;
-            asks(link, asked, after, room, out)
+        Ok(()) => {
+            let requested = clerk::open(link.exchange, link.settings.terms, primary, data, room);
+            asks(link, requested, room, out)
         }
-        Gate::Shut(refusal) => refused(link, refusal),
+        Err(refusal) => refused(link, refusal),
     }
 }
 
@@ -61,26 +60,24 @@ pub fn reply(
     ensures { left result room.new out.new ≡ reply_call link place function «data».now room.old out.old }
 {
     match gate(link, room.len(), out.len()) {
-        Gate::Open => {
-            let before = link.exchange;
-            let requested = clerk::reply(before, place, function, data, room);
-            let asked = requested.asked;
-            let after = requested.exchange;
-            asks(link, asked, after, room, out)
+        Ok(()) => {
+            let requested = clerk::reply(link.exchange, place, function, data, room);
+            asks(link, requested, room, out)
         }
-        Gate::Shut(refusal) => refused(link, refusal),
+        Err(refusal) => refused(link, refusal),
     }
 }
 
-// The line has no part in a release.
+// A release, which the transactions answer with `requested`: the line has no part in it. It is refused by 3 before anything is done.
 fn freed(mut link: Link, requested: Requested) -> Answer
-    ensures { result ≡ frees link requested }
+    ensures { result ≡ cond (link_in_range link) (frees link requested) (refused_as link Rattle.link.specs.declared.Refusal.TheVariants.State) }
 {
-    let asked = requested.asked;
-    let exchange = requested.exchange;
-    match asked {
-        Asked::Taken(place) => {
-            link.exchange = exchange;
+    if !in_range(link) {
+        return refused(link, Refusal::State);
+    }
+    match requested.asked {
+        Ok(place) => {
+            link.exchange = requested.exchange;
             answers(
                 link,
                 0,
@@ -89,28 +86,22 @@ fn freed(mut link: Link, requested: Requested) -> Answer
                 desk::no_flags(),
             )
         }
-        Asked::Refused(refusal) => refused(link, Refusal::Request(refusal)),
+        Err(refusal) => refused(link, Refusal::Request(refusal)),
     }
 }
 
 // Releases an own place that has its verdict.
+#[tactic(auto, unfolding(link::specs::Call::free_call))]
 pub fn release_own(link: Link, place: usize) -> Answer
     ensures { result ≡ release_own_call link place }
 {
-    if in_range(link) {
-        let exchange = link.exchange;
-        return freed(link, clerk::release_own(exchange, place));
-    }
-    refused(link, Refusal::State)
+    freed(link, clerk::release_own(link.exchange, place))
 }
 
 // Releases an incoming place whose message is complete and has no reply on its way.
+#[tactic(auto, unfolding(link::specs::Call::free_call))]
 pub fn release_incoming(link: Link, place: usize) -> Answer
     ensures { result ≡ release_incoming_call link place }
 {
-    if in_range(link) {
-        let exchange = link.exchange;
-        return freed(link, clerk::release_incoming(exchange, place));
-    }
-    refused(link, Refusal::State)
+    freed(link, clerk::release_incoming(link.exchange, place))
 }

@@ -3,18 +3,16 @@ ghost use Rattle.std.specs.Prelude.{◌≡◌, ◌≤◌};
 ghost use Rattle.link.specs.Setup.{agreed_by, messages_of, no_settings, panel_of, settings_in_range, ranged_of};
 ghost use Rattle.settings.specs.Terms.{agreed_of};
 
-use link::{Ranged, Settings, Setup};
-use settings::{Agreed, Fifths, Limits, MessagePanel, Panel, Seconds, Taken, Tenths, Terms};
+use link::{Settings, Setup};
+use settings::{Fifths, Limits, MessagePanel, Panel, Seconds, Tenths, Terms};
 
 fn panel(setup: Setup) -> Panel
     requires { setup.rty ≤ 31 }
     ensures { result ≡ panel_of setup }
 {
-    let t1 = setup.t1;
-    let t2 = setup.t2;
     Panel {
-        t1,
-        t2,
+        t1: setup.t1,
+        t2: setup.t2,
         rty: setup.rty as u8,
         master: !setup.host,
     }
@@ -23,64 +21,58 @@ fn panel(setup: Setup) -> Panel
 fn messages(setup: Setup) -> MessagePanel
     ensures { result ≡ messages_of setup }
 {
-    let t3 = setup.t3;
-    let t4 = setup.t4;
     MessagePanel {
-        t3,
-        t4,
+        t3: setup.t3,
+        t4: setup.t4,
         device: setup.device,
         duplicates: setup.duplicates,
         host: setup.host,
     }
 }
 
-fn agreed(setup: Setup, limits: Limits) -> Ranged
+fn agreed(setup: Setup, limits: Limits) -> Option<Settings>
     ensures { result ≡ agreed_by (agreed_of (messages_of setup)) limits }
 {
-    match messages(setup).terms() {
-        Agreed::Terms(terms) => Ranged::Settings(Settings { limits, terms }),
-        Agreed::OutOfRange => Ranged::OutOfRange,
-    }
+    let terms = messages(setup).terms()?;
+    Some(Settings { limits, terms })
 }
 
 // Refusal 4: "setting out of range".
-pub(crate) fn ranged(setup: Setup) -> Ranged
+#[tactic(auto, unfolding(link::specs::Setup::ranged_of))]
+pub(crate) fn ranged(setup: Setup) -> Option<Settings>
     ensures { result ≡ ranged_of setup }
 {
     if 31 < setup.rty {
-        return Ranged::OutOfRange;
+        return None;
     }
-    match panel(setup).limits() {
-        Taken::Limits(limits) => agreed(setup, limits),
-        Taken::OutOfRange => Ranged::OutOfRange,
-    }
+    let limits = panel(setup).limits()?;
+    agreed(setup, limits)
 }
 
 // Those of no unit: none of T1 to T4 is in its range.
 pub(crate) fn no_settings() -> Settings
     ensures { result ≡ no_settings }
 {
-    let limits = Limits {
-        t1: Tenths(0).ticks(),
-        t2: Fifths(0).ticks(),
-        rty: 0,
-        master: false,
-    };
-    let terms = Terms {
-        t3: Seconds(0).ticks(),
-        t4: Seconds(0).ticks(),
-        device: 0,
-        duplicates: false,
-        host: false,
-    };
-    Settings { limits, terms }
+    Settings {
+        limits: Limits {
+            t1: Tenths(0).ticks(),
+            t2: Fifths(0).ticks(),
+            rty: 0,
+            master: false,
+        },
+        terms: Terms {
+            t3: Seconds(0).ticks(),
+            t4: Seconds(0).ticks(),
+            device: 0,
+            duplicates: false,
+            host: false,
+        },
+    }
 }
 
+#[tactic(auto, unfolding(link::specs::Setup::settings_in_range))]
 pub(crate) fn settings_in_range(settings: Settings) -> bool
     ensures { result ≡ settings_in_range settings }
 {
-    if settings.limits.in_range() {
-        return settings.terms.in_range();
-    }
-    false
+    settings.limits.in_range() && settings.terms.in_range()
 }

@@ -5,7 +5,7 @@ ghost use Rattle.link.specs.State.{answer_as, fresh_link, refused_as, start_of};
 use crate::setup::{no_settings, ranged};
 use exchange::Flags;
 use line::Line;
-use link::{Answer, Link, Note, Outcome, Ranged, Refusal, Settings, Setup};
+use link::{Answer, Link, Note, Outcome, Refusal, Settings, Setup};
 
 // The line idle, no place in use.
 fn fresh(settings: Settings, last: u16) -> Link
@@ -56,7 +56,7 @@ pub fn start(setup: Setup) -> Answer
     ensures { result ≡ start_of setup }
 {
     match ranged(setup) {
-        Ranged::Settings(settings) => {
+        Some(settings) => {
             answers(
                 fresh(settings, setup.last),
                 0,
@@ -65,6 +65,6 @@ pub fn start(setup: Setup) -> Answer
                 desk::no_flags(),
             )
         }
-        Ranged::OutOfRange => { refused(fresh(no_settings(), 0), Refusal::Setting) }
+        None => refused(fresh(no_settings(), 0), Refusal::Setting),
     }
 }

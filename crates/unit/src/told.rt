@@ -14,11 +14,10 @@ use settings::Terms;
 pub(crate) fn untold(exchange: Exchange, note: Note) -> Midway
     ensures { result ≡ Rattle.link.specs.Run.untold exchange note }
 {
-    let flags = desk::no_flags();
     Midway {
         exchange,
         note,
-        flags,
+        flags: desk::no_flags(),
     }
 }
 
@@ -26,12 +25,10 @@ pub(crate) fn untold(exchange: Exchange, note: Note) -> Midway
 fn changed_to(changed: Changed, note: Note) -> Midway
     ensures { result ≡ changed_to changed note }
 {
-    let exchange = changed.exchange;
-    let flags = changed.flags;
     Midway {
-        exchange,
+        exchange: changed.exchange,
         note,
-        flags,
+        flags: changed.flags,
     }
 }
 
@@ -40,19 +37,13 @@ fn has_next(message: Outgoing, k: u16) -> bool
     ensures { result ≡ next_in message k }
 {
     match message {
-        Outgoing::Nothing => false,
-        Outgoing::Message { header: _, length } => {
-            let count = cut::blocks_in(length as usize);
-            (k as usize) < count
-        }
-        Outgoing::Report {
-            function: _,
-            number: _,
-        } => false,
+        Outgoing::Message { length, .. } => usize::from(k) < cut::blocks_in(usize::from(length)),
+        Outgoing::Nothing | Outgoing::Report { .. } => false,
     }
 }
 
 // A block goes out: they are told so of the message's last one.
+#[tactic(auto, unfolding(link::specs::Run::putting_out))]
 fn putting_out(more: bool, exchange: Exchange) -> Exchange
     ensures { result ≡ putting_out more exchange }
 {
@@ -63,6 +54,7 @@ fn putting_out(more: bool, exchange: Exchange) -> Exchange
 }
 
 // A block was acknowledged: they are told so of the message's last one.
+#[tactic(auto, unfolding(link::specs::Run::acknowledged))]
 fn acknowledged(more: bool, exchange: Exchange, note: Note) -> Midway
     ensures { result ≡ Rattle.link.specs.Run.acknowledged more exchange note }
 {
@@ -76,18 +68,9 @@ fn acknowledged(more: bool, exchange: Exchange, note: Note) -> Midway
 fn header_in(received: [u8; 256]) -> [u8; 10]
     ensures { result ≡ first_ten received }
 {
-    [
-        received[0],
-        received[1],
-        received[2],
-        received[3],
-        received[4],
-        received[5],
-        received[6],
-        received[7],
-        received[8],
-        received[9],
-    ]
+    let mut header = [0; 10];
+    header.copy_from_slice(&received[..10]);
+    header
 }
 
 // The data behind them, of a block of length N.
@@ -95,9 +78,9 @@ fn data_in(received: &[u8], n: u8) -> &[u8]
     requires { 255 ≤ length received.now }
     ensures { result.now ≡ part 10 n received.now }
 {
-    let end = n as usize;
+    let end = usize::from(n);
     if end < 10 {
-        return &received[0..0];
+        return &received[..0];
     }
     &received[10..end]
 }
@@ -106,23 +89,17 @@ fn data_in(received: &[u8], n: u8) -> &[u8]
 fn judged(link: Link, n: u8, room: &mut [u8]) -> Midway
     ensures { telling result room.new ≡ telling (judged_as (judging link n room.old).answer) (judging link n room.old).room }
 {
-    let exchange = link.exchange;
-    let received = link.received;
-    let header = header_in(received);
     let judged = judging::judge(
-        exchange,
+        link.exchange,
         link.settings.terms,
-        header,
-        data_in(&received, n),
+        header_in(link.received),
+        data_in(&link.received, n),
         room,
     );
-    let exchange = judged.exchange;
-    let note = judged.note;
-    let flags = judged.flags;
     Midway {
-        exchange,
-        note: Note::Block(note),
-        flags,
+        exchange: judged.exchange,
+        note: Note::Block(judged.note),
+        flags: judged.flags,
     }
 }
 
@@ -130,19 +107,17 @@ fn judged(link: Link, n: u8, room: &mut [u8]) -> Midway
 pub(crate) fn tells(link: Link, told: Told, note: Note, room: &mut [u8]) -> Midway
     ensures { telling result room.new ≡ Rattle.link.specs.Run.tells told note link room.old }
 {
-    let exchange = link.exchange;
     match told {
-        Told::Nothing => untold(exchange, note),
-        Told::PutOut => untold(
-            putting_out(has_next(clerk::outgoing(exchange), link.block), exchange),
-            note,
-        ),
-        Told::Sent => acknowledged(
-            has_next(clerk::outgoing(exchange), link.block),
-            exchange,
-            note,
-        ),
-        Told::Failed => changed_to(clerk::failed(exchange), note),
+        Told::Nothing => untold(link.exchange, note),
+        Told::PutOut => {
+            let more = has_next(clerk::outgoing(link.exchange), link.block);
+            untold(putting_out(more, link.exchange), note)
+        }
+        Told::Sent => {
+            let more = has_next(clerk::outgoing(link.exchange), link.block);
+            acknowledged(more, link.exchange, note)
+        }
+        Told::Failed => changed_to(clerk::failed(link.exchange), note),
         Told::Up(n) => judged(link, n, room),
     }
 }
@@ -152,16 +127,11 @@ pub(crate) fn passing(ticks: bool, terms: Terms, midway: Midway) -> Midway
     ensures { result ≡ Rattle.link.specs.Run.passing ticks terms midway }
 {
     if ticks {
-        let exchange = midway.exchange;
-        let note = midway.note;
-        let flags = midway.flags;
-        let changed = clerk::tick(exchange, terms);
-        let after = changed.exchange;
-        let more = changed.flags;
+        let changed = clerk::tick(midway.exchange, terms);
         return Midway {
-            exchange: after,
-            note,
-            flags: both_flags(flags, more),
+            exchange: changed.exchange,
+            flags: both_flags(midway.flags, changed.flags),
+            ..midway
         };
     }
     midway

@@ -87,7 +87,7 @@ abbrev pub unit : Settings → Phase → List ℕ → Exchange → ℕ → Link
 unit s p rs x k = record { settings = s; line = line_at false p; received = rs; exchange = x; block = k }
 
 -- one that 1, 2 and 3 do not refuse
-pub opens : (u : Link) (room o : List ℕ) → length room ≡ 36864 → 257 ≤ length o → link_in_range u ≡ true → gate_of u (length room) (length o) ≡ (Ok tt)
+pub opens : (u : Link) (room o : List ℕ) → length room ≡ 36864 → 257 ≤ length o → link_in_range u ≡ true → gate_of u (length room) (length o) ≡ Ok tt
 unfolding gate_of output_short room_fits
 opens u room o whole long ranged = simp (le-ltb (length o) 257 long, eq-eqb (length room) 36864 whole, ranged)
 
@@ -103,7 +103,7 @@ pub record Sound (s : Settings) (x : Exchange) (k : ℕ) (room : List ℕ) : Typ
   pub t2 : s.limits.t2.0 ≤ 250
 
 module _ (s : Settings) (x : Exchange) (k : ℕ) (room o : List ℕ) (long : 257 ≤ length o) (g : Sound s x k room) where
-  open_gate : (p : Phase) (rs : List ℕ) → phase_in_range p ≡ true → gate_of (unit s p rs x k) (length room) (length o) ≡ (Ok tt)
+  open_gate : (p : Phase) (rs : List ℕ) → phase_in_range p ≡ true → gate_of (unit s p rs x k) (length room) (length o) ≡ Ok tt
   unfolding link_in_range between
   open_gate p rs e =
       opens (unit s p rs x k) room o g.whole long (simp (le-leb 1 k g.least, le-leb k most_blocks g.most, g.settings, g.exchange, e))

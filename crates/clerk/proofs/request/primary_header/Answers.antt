@@ -13,7 +13,4 @@ unfolding block_count
 few_blocks n small = chosen (λ (k : ℕ). k < 65536) (eqb n 0) 1 ((n - 1) / 244 + 1) (λ t. omega arith) (λ f. omega arith)
 
 pub overflow_cast-result : goal.overflow_cast-result
-overflow_cast-result c = let small : c.args.length < 65536 = search rules in omega (arith, c.blocks_in-blocks.ensures, few_blocks c.args.length small)
-
-pub returns : goal.returns
-returns c = simp c.blocks_in-blocks.ensures
+overflow_cast-result c = let small : c.args.length < 65536 = search rules in omega (arith, c.blocks_in-blocks.ensures, few_blocks c.from.result (omega (arith, c.from.ensures, small)))

@@ -5,7 +5,7 @@ use Rattle.line.specs.declared.step.Told.{Told}
 use Rattle.line.specs.declared.step.Remark.{Remark}
 use Rattle.link.specs.declared.Link.{Link}
 use Rattle.link.specs.Run.{Left, hearing, block_out, onward}
-use Rattle.unit.proofs.Courses.{on_nothing, on_code, on_block}
+use Rattle.unit.proofs.Courses.{on_no_block, on_block}
 use Rattle.unit.proofs.step.unless_block.Goals as goal
 
 -- the two ways that the call can go
@@ -17,15 +17,10 @@ goes put told remark link room out = onward put false told link (hearing told re
 
 pub returns-in-Nothing : goal.returns-in-Nothing
 returns-in-Nothing c =
-    on_nothing c.args.put (block c.args.told c.args.remark c.args.link c.args.room.now c.args.out.now)
-    (goes c.args.put c.args.told c.args.remark c.args.link c.args.room.now c.args.out.now) c.in-Nothing.is c.onward.ensures
-
-pub returns-in-Code : goal.returns-in-Code
-returns-in-Code c =
-    on_code c.args.put (block c.args.told c.args.remark c.args.link c.args.room.now c.args.out.now)
-    (goes c.args.put c.args.told c.args.remark c.args.link c.args.room.now c.args.out.now) _ c.in-Code.is c.onward-in-Code.ensures
+    on_no_block c.args.step.out (block c.args.step.told c.args.step.remark c.args.link c.args.room.now c.args.out.now)
+    (goes c.args.step.out c.args.step.told c.args.step.remark c.args.link c.args.room.now c.args.out.now) c.in-Nothing.is c.onward.ensures
 
 pub returns-in-Block : goal.returns-in-Block
 returns-in-Block c =
-    on_block c.args.put (block c.args.told c.args.remark c.args.link c.args.room.now c.args.out.now)
-    (goes c.args.put c.args.told c.args.remark c.args.link c.args.room.now c.args.out.now) c.in-Block.is c.block_out.ensures
+    on_block c.args.step.out (block c.args.step.told c.args.step.remark c.args.link c.args.room.now c.args.out.now)
+    (goes c.args.step.out c.args.step.told c.args.step.remark c.args.link c.args.room.now c.args.out.now) c.in-Block.is c.block_out.ensures

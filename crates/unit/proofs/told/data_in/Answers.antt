@@ -4,7 +4,7 @@ use Rattle.unit.proofs.Courses.{short_part, whole_part}
 use Rattle.unit.proofs.told.data_in.Goals as goal
 
 pub returns-then-end-lt10 : goal.returns-then-end-lt10
-returns-then-end-lt10 c = sym (short_part _ _ c.if-end-lt10.true)
+returns-then-end-lt10 c = sym (rw c.from-end.ensures at (short_part c.from-end.result c.args.received.now c.if-end-lt10.true))
 
 pub returns : goal.returns
-returns c = whole_part _ _
+returns c = rw c.from-end.ensures (whole_part _ _)

@@ -10,4 +10,4 @@ pub data_in-requires : goal.data_in-requires
 data_in-requires c = let full : length c.args.link.received ≡ 256 = search rules in omega arith
 
 pub returns : goal.returns
-returns c = judges (rw (c.header_in-header.ensures, c.data_in.ensures) at c.judge-judged.ensures)
+returns c = judges (rw (c.header_in.ensures, c.data_in.ensures) at c.judge-judged.ensures)
