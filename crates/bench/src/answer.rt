@@ -127,8 +127,13 @@ fn verdict(link: Link, place: u8) -> Printed
 }
 
 // A command for a unit that was started. `bytes` begins with those that the line says.
-fn command(link: Link, command: Command, bytes: &[u8], room: &mut [u8], out: &mut [u8]) -> Shown
-    requires { length out.old ≤ 4096 }
+fn command(
+    link: Link,
+    command: Command,
+    bytes: &[u8],
+    room: &mut [u8],
+    out: &mut [u8; 4096],
+) -> Shown
     ensures { done result room.new out.new ≡ command_done link command bytes.now room.old out.old }
 {
     match command {
@@ -224,8 +229,7 @@ fn early(bench: Bench, command: Command) -> Shown
 }
 
 // Does what a line says.
-pub(crate) fn line(bench: Bench, line: &[u8], room: &mut [u8], out: &mut [u8]) -> Shown
-    requires { length out.old ≤ 4096 }
+pub(crate) fn line(bench: Bench, line: &[u8], room: &mut [u8], out: &mut [u8; 4096]) -> Shown
     ensures { done result room.new out.new ≡ line_done bench line.now room.old out.old }
 {
     let mut bytes = [0u8; 512];
