@@ -6,8 +6,6 @@ use native.Mathlib.Omega.{arith}
 use lib.ListN.{length, take, drop, get_or, length-append, length-take, length-drop}
 use lib.Seq.{take_all, length-take-le, drop-cons, drop-drop, drop-length}
 use borrow.Rule.Slice.PartMut.{put_mid}
-use Rattle.wire.specs.Lent.{Filled, filled, filled_with}
-use Rattle.wire.proofs.Lent.{within}
 use Rattle.link.specs.Run.{Left, left}
 use Rattle.link.specs.History.{Call, called}
 use Rattle.link.specs.declared.Answer.{Answer}
@@ -94,11 +92,3 @@ by_call out room back a r shown l p j e = rw (p, j) (ap (λ (x : Left). done_by 
 -- many
 pub by_run : (room out : List ℕ) (r : Ran) (shown : Shown) (s : Running) → shown ≡ shown_ran r → running r room out ≡ s → done shown room out ≡ done_by s
 by_run room out r shown s p e = rw p (ap done_by e)
-
--- an answer that is put behind those that wait to be printed ends within the memory for them
-pub shown_within :
-    (line text after : List ℕ) (w n : ℕ) → w ≤ length text → filled n after ≡ filled_with line (take (length text - w) (drop w text)) → w + n ≤ length text
-shown_within line text after w n h e =
-    let count = ap (λ (f : Filled). f.count) e in
-    let size : length (take (length text - w) (drop w text)) ≡ length text - w = simp (length-take, length-drop) (omega arith) in
-    omega (arith, count, size, within line (take (length text - w) (drop w text)))

@@ -15,9 +15,10 @@ pub(crate) fn first(bytes: &[u8], count: usize) -> &[u8]
     ensures { result.now ≡ take count bytes.now }
 {
     if count <= bytes.len() {
-        return &bytes[0..count];
+        &bytes[..count]
+    } else {
+        bytes
     }
-    bytes
 }
 
 // `?`, and all is as it was.
@@ -32,23 +33,19 @@ fn unreadable(bench: Option<Link>) -> Shown
 }
 
 // A refused start leaves the unit that there was, or none.
+#[tactic(auto, unfolding(talk::specs::Answer::start_shown))]
 fn start(bench: Option<Link>, setup: Setup) -> Shown
     ensures { result ≡ start_shown bench setup }
 {
     let answer = unit::start(setup);
-    let outcome = answer.outcome;
-    let number = unit::outcome_number(outcome);
-    let printed = Printed::Answer { number, note: 20 };
-    if number == 0 {
-        return Shown {
-            bench: Some(answer.link),
-            printed,
-            count: 0,
-        };
-    }
+    let number = unit::outcome_number(answer.outcome);
     Shown {
-        bench,
-        printed,
+        bench: if number == 0 {
+            Some(answer.link)
+        } else {
+            bench
+        },
+        printed: Printed::Answer { number, note: 20 },
         count: 0,
     }
 }
@@ -72,8 +69,7 @@ fn standing_number(standing: Standing) -> u8
     ensures { result ≡ standing_number standing }
 {
     match standing {
-        Standing::Free => 0,
-        Standing::Open => 0,
+        Standing::Free | Standing::Open => 0,
         Standing::Given(verdict) => life::verdict_number(verdict),
     }
 }
@@ -95,8 +91,13 @@ fn verdict(link: Link, place: u8) -> Printed
 }
 
 // A command for a unit that was started. `bytes` begins with those that the line says.
-fn command(link: Link, command: Command, bytes: &[u8], room: &mut [u8], out: &mut [u8]) -> Shown
-    requires { length out.old ≤ 4096 }
+fn command(
+    link: Link,
+    command: Command,
+    bytes: &[u8],
+    room: &mut [u8],
+    out: &mut [u8; 4096],
+) -> Shown
     ensures { done result room.new out.new ≡ command_done link command bytes.now room.old out.old }
 {
     match command {
@@ -112,7 +113,7 @@ fn command(link: Link, command: Command, bytes: &[u8], room: &mut [u8], out: &mu
         } => {
             let answer = unit::reply(
                 link,
-                place as usize,
+                usize::from(place),
                 function,
                 first(bytes, length),
                 room,
@@ -121,11 +122,11 @@ fn command(link: Link, command: Command, bytes: &[u8], room: &mut [u8], out: &mu
             ran(run::joined(0, answer))
         }
         Command::ReleaseOwn(place) => {
-            let answer = unit::release_own(link, place as usize);
+            let answer = unit::release_own(link, usize::from(place));
             ran(run::joined(0, answer))
         }
         Command::ReleaseIncoming(place) => {
-            let answer = unit::release_incoming(link, place as usize);
+            let answer = unit::release_incoming(link, usize::from(place));
             ran(run::joined(0, answer))
         }
         Command::Bytes(length) => ran(run::bytes(link, first(bytes, length), room, out)),
@@ -160,8 +161,8 @@ fn early(command: Command) -> Shown
 }
 
 // Does what a line says.
-pub(crate) fn line(bench: Option<Link>, line: &[u8], room: &mut [u8], out: &mut [u8]) -> Shown
-    requires { length out.old ≤ 4096 }
+#[tactic(auto, unfolding(talk::specs::Answer::line_done))]
+pub(crate) fn line(bench: Option<Link>, line: &[u8], room: &mut [u8], out: &mut [u8; 4096]) -> Shown
     ensures { done result room.new out.new ≡ line_done bench line.now room.old out.old }
 {
     let mut bytes = [0u8; 512];

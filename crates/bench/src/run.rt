@@ -23,13 +23,10 @@ pub(crate) fn joined(before: usize, answer: Answer) -> Ran
     requires { (before ≤ 4096) × (answer.count ≤ 4096) }
     ensures { result ≡ joined_ran before answer }
 {
-    let link = answer.link;
-    let outcome = answer.outcome;
-    let note = answer.note;
     Ran {
-        link,
-        number: unit::outcome_number(outcome),
-        note: unit::note_number(note),
+        link: answer.link,
+        number: unit::outcome_number(answer.outcome),
+        note: unit::note_number(answer.note),
         count: before + answer.count,
     }
 }
@@ -38,46 +35,36 @@ fn byte(ran: Ran, b: u8, room: &mut [u8], out: &mut [u8]) -> Ran
     requires { (ran.count ≤ length out.old) × (length out.old ≤ 4096) }
     ensures { running result room.new out.new ≡ byte_run (running ran room.old out.old) b }
 {
-    let link = ran.link;
-    let before = ran.count;
-    let answer = unit::byte(link, b, room, &mut out[before..]);
-    joined(before, answer)
+    let answer = unit::byte(ran.link, b, room, &mut out[ran.count..]);
+    joined(ran.count, answer)
 }
 
 fn tick(ran: Ran, room: &mut [u8], out: &mut [u8]) -> Ran
     requires { (ran.count ≤ length out.old) × (length out.old ≤ 4096) }
     ensures { running result room.new out.new ≡ tick_run (running ran room.old out.old) }
 {
-    let link = ran.link;
-    let before = ran.count;
-    let answer = unit::tick(link, room, &mut out[before..]);
-    joined(before, answer)
+    let answer = unit::tick(ran.link, room, &mut out[ran.count..]);
+    joined(ran.count, answer)
 }
 
 // `B`: one call for each byte.
-pub(crate) fn bytes(link: Link, bytes: &[u8], room: &mut [u8], out: &mut [u8]) -> Ran
-    requires { length out.old ≤ 4096 }
+pub(crate) fn bytes(link: Link, bytes: &[u8], room: &mut [u8], out: &mut [u8; 4096]) -> Ran
     ensures { running result room.new out.new ≡ bytes_run (running (nothing_ran link) room.old out.old) bytes.now }
 {
     let mut ran = nothing(link);
-    let mut i: usize = 0;
-    while i < bytes.len() {
-        ran = byte(ran, bytes[i], room, out);
-        i += 1;
+    for &b in bytes {
+        ran = byte(ran, b, room, out);
     }
     ran
 }
 
 // `T`: one call for each tick.
-pub(crate) fn ticks(link: Link, count: u32, room: &mut [u8], out: &mut [u8]) -> Ran
-    requires { length out.old ≤ 4096 }
+pub(crate) fn ticks(link: Link, count: u32, room: &mut [u8], out: &mut [u8; 4096]) -> Ran
     ensures { running result room.new out.new ≡ ticks_run (running (nothing_ran link) room.old out.old) count }
 {
     let mut ran = nothing(link);
-    let mut left = count;
-    while 0 < left {
+    for done in 0..count {
         ran = tick(ran, room, out);
-        left -= 1;
     }
     ran
 }

@@ -36,13 +36,13 @@ pub returns-in-Open : goal.returns-in-Open
 returns-in-Open c = simp c.in-Open.is (by_call c.args.out.now _ _ _ _ _ _ c.ran.ensures c.joined.ensures (c.open-answer.ensures ∙ ap (λ (d : List ℕ). open_call c.args.link c.in-Open.primary d c.args.room.now c.args.out.now) c.first.ensures))
 
 pub returns-in-Reply : goal.returns-in-Reply
-returns-in-Reply c = simp c.in-Reply.is (by_call c.args.out.now _ _ _ _ _ _ c.ran-in-Reply.ensures c.joined-in-Reply.ensures (c.reply-answer.ensures ∙ ap (λ (d : List ℕ). reply_call c.args.link c.in-Reply.place c.in-Reply.function d c.args.room.now c.args.out.now) c.first-in-Reply.ensures))
+returns-in-Reply c = simp c.in-Reply.is (by_call c.args.out.now _ _ _ _ _ _ c.ran-in-Reply.ensures c.joined-in-Reply.ensures ((rw c.from.ensures at c.reply-answer.ensures) ∙ ap (λ (d : List ℕ). reply_call c.args.link c.in-Reply.place c.in-Reply.function d c.args.room.now c.args.out.now) c.first-in-Reply.ensures))
 
 pub returns-in-ReleaseOwn : goal.returns-in-ReleaseOwn
-returns-in-ReleaseOwn c = simp c.in-ReleaseOwn.is (by_call c.args.out.now _ _ _ _ _ _ c.ran-in-ReleaseOwn.ensures c.joined-in-ReleaseOwn.ensures (ap (λ a. left a c.args.room.now c.args.out.now) c.release_own-answer.ensures))
+returns-in-ReleaseOwn c = simp c.in-ReleaseOwn.is (by_call c.args.out.now _ _ _ _ _ _ c.ran-in-ReleaseOwn.ensures c.joined-in-ReleaseOwn.ensures (ap (λ a. left a c.args.room.now c.args.out.now) (rw c.from-in-ReleaseOwn.ensures at c.release_own-answer.ensures)))
 
 pub returns-in-ReleaseIncoming : goal.returns-in-ReleaseIncoming
-returns-in-ReleaseIncoming c = simp c.in-ReleaseIncoming.is (by_call c.args.out.now _ _ _ _ _ _ c.ran-in-ReleaseIncoming.ensures c.joined-in-ReleaseIncoming.ensures (ap (λ a. left a c.args.room.now c.args.out.now) c.release_incoming-answer.ensures))
+returns-in-ReleaseIncoming c = simp c.in-ReleaseIncoming.is (by_call c.args.out.now _ _ _ _ _ _ c.ran-in-ReleaseIncoming.ensures c.joined-in-ReleaseIncoming.ensures (ap (λ a. left a c.args.room.now c.args.out.now) (rw c.from-in-ReleaseIncoming.ensures at c.release_incoming-answer.ensures)))
 
 pub returns-in-Bytes : goal.returns-in-Bytes
 returns-in-Bytes c = simp c.in-Bytes.is (by_run _ _ _ _ _ c.ran-in-Bytes.ensures (c.bytes.ensures ∙ ap (bytes_run (running (nothing_ran c.args.link) c.args.room.now c.args.out.now)) c.first-in-Bytes.ensures))
