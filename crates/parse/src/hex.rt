@@ -54,10 +54,8 @@ pub fn put_data(text: &[u8], bytes: &mut [u8]) -> usize
     if bytes.len() < count {
         return 0;
     }
-    let mut i: usize = 0;
-    while i < count {
+    for i in 0..count {
         bytes[i] = pair(text[2 * i], text[2 * i + 1]);
-        i += 1;
     }
     count
 }

@@ -71,11 +71,8 @@ fn put_hex(out: &mut [u8], at: usize, bytes: &[u8])
     requires { at + length (hex_of bytes.now) ≤ length out.old }
     ensures { out.new ≡ splice out.old at (hex_of bytes.now) }
 {
-    let mut i: usize = 0;
-    while i < bytes.len() {
-        let digits = two(bytes[i]);
-        put(out, at + 2 * i, &digits);
-        i += 1;
+    for (i, byte) in bytes.iter().enumerate() {
+        put(out, at + 2 * i, &two(*byte));
     }
 }
 

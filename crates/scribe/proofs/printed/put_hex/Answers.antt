@@ -20,10 +20,6 @@ pub overflow_add-at : goal.overflow_add-at
 unfolding hex_of
 overflow_add-at c = omega (arith, hex_length c.args.bytes.now)
 
-pub overflow_add-i : goal.overflow_add-i
-unfolding hex_of
-overflow_add-i c = omega arith
-
 pub loop-i-smaller : goal.loop-i-smaller
 unfolding hex_of
 loop-i-smaller c = omega arith
@@ -35,7 +31,7 @@ loop-i-preserved c =
     ap length c.loop-i.invariant.1 ∙ hex_room c.args.out.now c.args.bytes.now c.args.at c.loop-i.i c.requires c.loop-i.invariant.0 in (
       omega arith,
       put_two c.args.out.now c.args.bytes.now _ _ _ c.args.at c.loop-i.i (omega (arith, c.requires)) c.loop-i-test.true
-          c.loop-i.invariant.1 c.two-digits.ensures (c.put.ensures ∙ put_fits _ _ _ (omega (arith, hex_length c.args.bytes.now, size))),
+          c.loop-i.invariant.1 c.two.ensures (c.put.ensures ∙ put_fits _ _ _ (omega (arith, hex_length c.args.bytes.now, size))),
     )
 
 pub shape_of-out : goal.shape_of-out
