@@ -1,6 +1,6 @@
 -- How what is being sent ends, where `own` says what becomes of the place of a primary and `incoming` of that of a reply: what the clerk's
 -- function says that serves the ACK of the last block and a block that failed.
-use Rattle.std.specs.Prelude.{◌≡◌, ℕ}
+use Rattle.std.specs.Prelude.{◌≡◌}
 use Rattle.place.specs.declared.Own.{Own}
 use Rattle.place.specs.declared.Incoming.{Incoming}
 use Rattle.exchange.specs.Exchange.{own_place, incoming_place}

@@ -1,6 +1,7 @@
 // Requests: open a primary, reply, release. Refusals 5 to 11 of 01's table, in its order.
 ghost use Rattle.std.specs.Prelude.{◌≡◌, ◌≤◌, length};
 ghost use Rattle.wire.specs.Message.{message_limit};
+ghost use Rattle.clerk.specs.Sendable.{sendable};
 ghost use Rattle.exchange.specs.Request.{requesting, bad_function, bad_primary, claimed_at, data_long, is_sending, not_ready, open_free, open_of, primary_header, refusal_number, refused_by, release_incoming, release_own, reply_accepted, reply_of, reply_ready};
 
 use desk::{incoming_place, own_place, put_incoming, put_own, with_sending};
@@ -77,6 +78,22 @@ pub fn is_sending(exchange: Exchange) -> bool
     desk::is_message(exchange.sending)
 }
 
+// 5, 6 and 7, which a primary and a reply have in the same order. `bad`: whether 5 refuses the message.
+fn sendable(exchange: Exchange, bad: bool, size: usize) -> Result<(), Refusal>
+    ensures { result ≡ sendable exchange bad size }
+{
+    if bad {
+        return Err(Refusal::Message);
+    }
+    if data_long(size) {
+        return Err(Refusal::DataLong);
+    }
+    if is_sending(exchange) {
+        return Err(Refusal::Sending);
+    }
+    Ok(())
+}
+
 #[tactic(auto, unfolding(exchange::specs::Request::refused_by))]
 fn refused(exchange: Exchange, refusal: Refusal) -> Requested
     ensures { result ≡ refused_by exchange refusal }
@@ -148,14 +165,8 @@ pub fn open(
 ) -> Requested
     ensures { requesting result room.new ≡ open_of terms exchange primary «data».now room.old }
 {
-    if bad_primary(primary) {
-        return refused(exchange, Refusal::Message);
-    }
-    if data_long(data.len()) {
-        return refused(exchange, Refusal::DataLong);
-    }
-    if is_sending(exchange) {
-        return refused(exchange, Refusal::Sending);
+    if let Err(refusal) = sendable(exchange, bad_primary(primary), data.len()) {
+        return refused(exchange, refusal);
     }
     open_free(exchange, terms, primary, data, room)
 }
@@ -198,14 +209,8 @@ fn reply_ready(
     ensures { requesting result room.new ≡ reply_ready exchange place function «data».now room.old }
 {
     let primary = incoming::primary(incoming_place(exchange, place));
-    if bad_function(primary, function) {
-        return refused(exchange, Refusal::Message);
-    }
-    if data_long(data.len()) {
-        return refused(exchange, Refusal::DataLong);
-    }
-    if is_sending(exchange) {
-        return refused(exchange, Refusal::Sending);
+    if let Err(refusal) = sendable(exchange, bad_function(primary, function), data.len()) {
+        return refused(exchange, refusal);
     }
     reply_accepted(exchange, place, function, data, room)
 }

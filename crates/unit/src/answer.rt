@@ -1,9 +1,8 @@
 // The numbers of refusals, outcomes and notes (01, "Refusal numbers and notes").
 ghost use Rattle.std.specs.Prelude.{◌≡◌};
-ghost use Rattle.line.specs.Codes.{fault_note};
 ghost use Rattle.link.specs.Answer.{note_by, note_number, outcome_number, refusal_number};
 
-use line::{Fault, Remark};
+use line::Remark;
 use link::{Note, Outcome, Refusal};
 
 // The refusal's number in 01's table.
@@ -29,15 +28,6 @@ pub fn outcome_number(outcome: Outcome) -> u8
     }
 }
 
-fn fault_number(fault: Fault) -> u8
-    ensures { result ≡ fault_note fault }
-{
-    match fault {
-        Fault::Length => 30,
-        Fault::Sum { .. } => 31,
-    }
-}
-
 // What the line remarked, as a note. That of a block which went up is its judge's.
 pub(crate) fn note_of(remark: Remark) -> Note
     ensures { result ≡ note_by remark }
@@ -55,10 +45,10 @@ pub fn note_number(note: Note) -> u8
     ensures { result ≡ note_number note }
 {
     match note {
-        Note::Nothing => 20,
+        Note::Nothing => Remark::Nothing.note(),
         Note::Block(note) => desk::note_number(note),
-        Note::NoLength => 28,
-        Note::Gap => 29,
-        Note::Bad(fault) => fault_number(fault),
+        Note::NoLength => Remark::NoLength.note(),
+        Note::Gap => Remark::Gap.note(),
+        Note::Bad(fault) => Remark::Bad(fault).note(),
     }
 }

@@ -17,7 +17,7 @@ use link::{Answer, Link, Note, Outcome};
 pub fn byte(mut link: Link, b: u8, room: &mut [u8], out: &mut [u8]) -> Answer
     ensures { left result room.new out.new ≡ byte_call link b room.old out.old }
 {
-    match admits(
+    if let Err(refusal) = admits(
         link.settings,
         link.line,
         link.exchange,
@@ -25,30 +25,28 @@ pub fn byte(mut link: Link, b: u8, room: &mut [u8], out: &mut [u8]) -> Answer
         room.len(),
         out.len(),
     ) {
-        Ok(()) => {
-            let step = link.line.byte(link.settings.limits, b, &mut link.received);
-            link.line = step.line;
-            if is_quiet(step) {
-                return settles(
-                    link,
-                    step.out,
-                    Outcome::Done,
-                    Note::Nothing,
-                    desk::no_flags(),
-                    out,
-                );
-            }
-            unless_block(link, step, room, out)
-        }
-        Err(refusal) => refused(link, refusal),
+        return refused(link, refusal);
     }
+    let step = link.line.byte(link.settings.limits, b, &mut link.received);
+    link.line = step.line;
+    if is_quiet(step) {
+        return settles(
+            link,
+            step.out,
+            Outcome::Done,
+            Note::Nothing,
+            desk::no_flags(),
+            out,
+        );
+    }
+    unless_block(link, step, room, out)
 }
 
 // 0.1 s have passed.
 pub fn tick(mut link: Link, room: &mut [u8], out: &mut [u8]) -> Answer
     ensures { left result room.new out.new ≡ tick_call link room.old out.old }
 {
-    match admits(
+    if let Err(refusal) = admits(
         link.settings,
         link.line,
         link.exchange,
@@ -56,40 +54,36 @@ pub fn tick(mut link: Link, room: &mut [u8], out: &mut [u8]) -> Answer
         room.len(),
         out.len(),
     ) {
-        Ok(()) => {
-            let step = link.line.tick(link.settings.limits);
-            link.line = step.line;
-            if is_quiet(step) && clerk::is_still(link.exchange) {
-                return settles(
-                    link,
-                    step.out,
-                    Outcome::Done,
-                    Note::Nothing,
-                    desk::no_flags(),
-                    out,
-                );
-            }
-            onward(link, step, true, room, out)
-        }
-        Err(refusal) => refused(link, refusal),
+        return refused(link, refusal);
     }
+    let step = link.line.tick(link.settings.limits);
+    link.line = step.line;
+    if is_quiet(step) && clerk::is_still(link.exchange) {
+        return settles(
+            link,
+            step.out,
+            Outcome::Done,
+            Note::Nothing,
+            desk::no_flags(),
+            out,
+        );
+    }
+    onward(link, step, true, room, out)
 }
 
 // The last byte of our block has left the wire.
 pub fn drained(mut link: Link, room: &mut [u8], out: &mut [u8]) -> Answer
     ensures { left result room.new out.new ≡ drained_call link room.old out.old }
 {
-    match gate(link, room.len(), out.len()) {
-        Ok(()) => {
-            link.line = link.line.drained();
-            let step = Step {
-                line: link.line,
-                out: Out::Nothing,
-                told: Told::Nothing,
-                remark: Remark::Nothing,
-            };
-            onward(link, step, false, room, out)
-        }
-        Err(refusal) => refused(link, refusal),
+    if let Err(refusal) = gate(link, room.len(), out.len()) {
+        return refused(link, refusal);
     }
+    link.line = link.line.drained();
+    let step = Step {
+        line: link.line,
+        out: Out::Nothing,
+        told: Told::Nothing,
+        remark: Remark::Nothing,
+    };
+    onward(link, step, false, room, out)
 }

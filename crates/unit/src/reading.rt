@@ -24,30 +24,16 @@ pub fn incoming(link: Link, place: usize) -> Option<IncomingReading>
 pub fn reply_data(link: Link, room: &[u8], place: usize) -> &[u8]
     ensures { result.now ≡ reply_data link room.now place }
 {
-    match own(link, place) {
-        Some(own) => store::bytes_of(
-            room,
-            Message::Reply(place),
-            0,
-            usize::from(own.reply.length),
-        ),
-        None => &room[..0],
-    }
+    let length = own(link, place).map_or(0, |own| own.reply.length);
+    store::bytes_of(room, Message::Reply(place), 0, usize::from(length))
 }
 
 // What is kept of the message in an incoming place, as a part of the room.
 pub fn incoming_data(link: Link, room: &[u8], place: usize) -> &[u8]
     ensures { result.now ≡ incoming_data link room.now place }
 {
-    match incoming(link, place) {
-        Some(incoming) => store::bytes_of(
-            room,
-            Message::Incoming(place),
-            0,
-            usize::from(incoming.length),
-        ),
-        None => &room[..0],
-    }
+    let length = incoming(link, place).map_or(0, |incoming| incoming.length);
+    store::bytes_of(room, Message::Incoming(place), 0, usize::from(length))
 }
 
 // "a message is being sent or held": no other is accepted.

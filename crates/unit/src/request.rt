@@ -39,13 +39,11 @@ fn asks(link: Link, requested: Requested, room: &[u8], out: &mut [u8]) -> Answer
 pub fn open(link: Link, primary: Primary, data: &[u8], room: &mut [u8], out: &mut [u8]) -> Answer
     ensures { left result room.new out.new ≡ open_call link primary «data».now room.old out.old }
 {
-    match gate(link, room.len(), out.len()) {
-        Ok(()) => {
-            let requested = clerk::open(link.exchange, link.settings.terms, primary, data, room);
-            asks(link, requested, room, out)
-        }
-        Err(refusal) => refused(link, refusal),
+    if let Err(refusal) = gate(link, room.len(), out.len()) {
+        return refused(link, refusal);
     }
+    let requested = clerk::open(link.exchange, link.settings.terms, primary, data, room);
+    asks(link, requested, room, out)
 }
 
 // Replies to the message in an incoming place. The stream is the primary's.
@@ -59,13 +57,11 @@ pub fn reply(
 ) -> Answer
     ensures { left result room.new out.new ≡ reply_call link place function «data».now room.old out.old }
 {
-    match gate(link, room.len(), out.len()) {
-        Ok(()) => {
-            let requested = clerk::reply(link.exchange, place, function, data, room);
-            asks(link, requested, room, out)
-        }
-        Err(refusal) => refused(link, refusal),
+    if let Err(refusal) = gate(link, room.len(), out.len()) {
+        return refused(link, refusal);
     }
+    let requested = clerk::reply(link.exchange, place, function, data, room);
+    asks(link, requested, room, out)
 }
 
 // A release, which the transactions answer with `requested`: the line has no part in it. It is refused by 3 before anything is done.

@@ -4,11 +4,11 @@ use Rattle.unit.proofs.Courses.{opens, shuts, requests}
 use Rattle.unit.proofs.request.open.Goals as goal
 
 pub asks-requires : goal.asks-requires
-asks-requires c = let p = past c.args.link _ _ c.gate.ensures c.in-Ok.is in (p.output, p.block)
+asks-requires c = let p = past c.args.link _ _ c.gate.ensures c.in_default.is in (p.output, p.block)
 
-pub returns-in-Ok : goal.returns-in-Ok
-returns-in-Ok c =
-    opens c.args.link c.args.room.now c.args.out.now _ c.gate.ensures c.in-Ok.is (requests c.args.link _ c.args.out.now c.open-requested.ensures c.asks.ensures)
+pub returns : goal.returns
+returns c =
+    opens c.args.link c.args.room.now c.args.out.now _ c.gate.ensures c.in_default.is (requests c.args.link _ c.args.out.now c.open-requested.ensures c.asks.ensures)
 
 pub returns-in-Err : goal.returns-in-Err
 returns-in-Err c = shuts c.args.link c.args.room.now c.args.out.now _ _ c.gate.ensures c.in-Err.is c.refused.ensures
