@@ -19,13 +19,13 @@ fn got_marks(before: [Own; 4], after: [Own; 4]) -> [bool; 4]
 }
 
 // Of several verdicts in one tick that of the highest place is the latest.
-fn latest_over(latest: u16, before: [Own; 4], after: [Own; 4]) -> u16
+fn latest_over(mut latest: u16, before: [Own; 4], after: [Own; 4]) -> u16
     ensures { result ≡ latest_over latest before after }
 {
-    let first = latest_after(latest, own_at(before, 0), own_at(after, 0));
-    let second = latest_after(first, own_at(before, 1), own_at(after, 1));
-    let third = latest_after(second, own_at(before, 2), own_at(after, 2));
-    latest_after(third, own_at(before, 3), own_at(after, 3))
+    for place in 0..4 {
+        latest = latest_after(latest, own_at(before, place), own_at(after, place));
+    }
+    latest
 }
 
 // A tick drops an open message whose T4 runs out.
@@ -126,14 +126,19 @@ fn late_at(
 }
 
 // Places 0 to 3 add theirs (reading 34).
-#[tactic(auto, unfolding(exchange::specs::Tick::late_over))]
-fn late_over(terms: Terms, before: [Own; 4], after: [Own; 4], latest: u16, outbox: Outbox) -> Outbox
+fn late_over(
+    terms: Terms,
+    before: [Own; 4],
+    after: [Own; 4],
+    latest: u16,
+    mut outbox: Outbox,
+) -> Outbox
     ensures { result ≡ late_over terms before after latest outbox }
 {
-    let first = late_at(terms, before, after, latest, 0, outbox);
-    let second = late_at(terms, before, after, latest, 1, first);
-    let third = late_at(terms, before, after, latest, 2, second);
-    late_at(terms, before, after, latest, 3, third)
+    for place in 0..4 {
+        outbox = late_at(terms, before, after, latest, place, outbox);
+    }
+    outbox
 }
 
 // The same, by the marks of the places that got a verdict: where there is none, there is nothing to go through.
