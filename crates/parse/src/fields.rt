@@ -27,9 +27,10 @@ pub fn behind(text: &[u8]) -> &[u8]
 {
     let end = find(text, b' ');
     if end < text.len() {
-        return &text[end + 1..];
+        &text[end + 1..]
+    } else {
+        &text[..0]
     }
-    &text[0..0]
 }
 
 // The byte of a field that is one byte.
@@ -37,8 +38,8 @@ pub fn behind(text: &[u8]) -> &[u8]
 pub fn letter(text: &[u8]) -> Option<u8>
     ensures { result ≡ letter_of text.now }
 {
-    if text.len() == 1 {
-        return Some(text[0]);
+    match text {
+        [byte] => Some(*byte),
+        _ => None,
     }
-    None
 }

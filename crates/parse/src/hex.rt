@@ -23,19 +23,15 @@ fn are_digits(text: &[u8]) -> bool
 }
 
 // Whether a field says bytes: `-`, or hex digits, two for a byte.
+#[tactic(auto, unfolding(text::specs::Hex::is_data))]
 pub fn is_data(text: &[u8]) -> bool
     ensures { result ≡ is_data text.now }
 {
-    if text.len() == 0 {
-        return false;
+    match text {
+        [] => false,
+        [byte] => *byte == b'-',
+        _ => text.len() % 2 == 0 && are_digits(text),
     }
-    if text.len() == 1 {
-        return text[0] == b'-';
-    }
-    if text.len() % 2 == 1 {
-        return false;
-    }
-    are_digits(text)
 }
 
 // The byte that two digits say. What is no digit counts as 0: `is_data` tells which fields are digits.

@@ -58,9 +58,9 @@ pub(crate) fn decimal(text: &[u8]) -> Option<u16> {
 pub(crate) fn front_numbers<const N: usize>(text: &[u8], mark: u8) -> Option<([u16; N], &[u8])> {
     let mut numbers = [0; N];
     let mut rest = text;
-    for i in 0..N {
+    for number in &mut numbers {
         let (field, more) = cut_at(rest.strip_prefix(&[mark])?, mark);
-        numbers[i] = decimal(field)?;
+        *number = decimal(field)?;
         rest = more;
     }
     Some((numbers, rest))

@@ -17,9 +17,9 @@ returns-then-end-text c =
     take_all (length text - (c.find-end.result + 1)) (drop (c.find-end.result + 1) text) (omega (arith, length-drop (c.find-end.result + 1) text))
     ∙ ap (λ (k : ℕ). drop (k + 1) text) at
 
-pub returns : goal.returns
+pub returns-else-end-text : goal.returns-else-end-text
 unfolding behind_of
-returns c =
+returns-else-end-text c =
     let text = c.args.text.now in
     let at : c.find-end.result ≡ index_of space text = c.find-end.ensures in
     sym (nothing_behind text (index_of space text + 1) (omega (arith, at, c.if-end-text.false)))
