@@ -18,13 +18,11 @@ fn reply_to(primary: Header, function: u8) -> Header
 {
     Header {
         r: !primary.r,
-        device: primary.device,
         w: false,
-        stream: primary.stream,
         function,
         e: false,
         number: 0,
-        system: primary.system,
+        ..primary
     }
 }
 
