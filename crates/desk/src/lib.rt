@@ -1,6 +1,6 @@
 // The state of the transactions (01, "Messages"): at its start, with one of its parts anew, in its ranges, and what a user reads of a
 // place; flags and notes; reports. What each of these is, is said in crate `exchange`. Judging (crate `judging`) and the clerk (crate `clerk`)
-// change the state through these functions alone.
+// change the state through these functions, but where a request and a tick put several parts anew at once.
 //
 // No public function has a `requires`: each answers for every input, and its `ensures` is one equation with a definition of `exchange`.
 #![tactic(auto)]
