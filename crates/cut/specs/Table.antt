@@ -1,7 +1,7 @@
 -- The rows of 01's proved table ("Bench program and proved table") that are about cutting.
 use Rattle.std.specs.Prelude.{ℕ, ◌+◌, ◌≡◌, Option, None, Some}
 use Rattle.header.specs.Table.{primary}
-use Rattle.cut.specs.Blocks.{block_count, cut_of, cut_at}
+use Rattle.cut.specs.Blocks.{block_count, cut_of}
 use Rattle.cut.specs.declared.Cut.{Cut}
 
 -- the block length N of what was cut: ten header bytes, and its part of the data

@@ -1,5 +1,5 @@
 -- The state of the transactions, and what changes one part of it.
-use Rattle.std.specs.Prelude.{ℕ, Bool, true, false, cond, not, ◌&&◌, List, eqb, replicate, None, Some}
+use Rattle.std.specs.Prelude.{ℕ, Bool, false, cond, not, ◌&&◌, List, eqb, replicate, None, Some}
 use Rattle.place.specs.Own.{fresh_own, own_has_verdict}
 use Rattle.place.specs.Incoming.{fresh_incoming}
 use Rattle.place.specs.declared.Own.{Own}

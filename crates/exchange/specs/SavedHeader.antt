@@ -1,6 +1,6 @@
 -- The header that is saved for rule 2 (01, "Messages"), over every list of calls from a fresh start. An onlooker keeps one too, by what is
 -- called and answered alone, and rule 2 goes by that one. Each proof is in `proofs/SavedHeader.antt`.
-use Rattle.std.specs.Prelude.{ℕ, ◌≡◌, true, false, cond, ◌||◌, List, ◌↔◌, eqb, length, Option, Some, None}
+use Rattle.std.specs.Prelude.{ℕ, ◌≡◌, true, cond, ◌||◌, List, ◌↔◌, eqb, length, Option, Some, None}
 use Rattle.header.specs.Header.{header_of}
 use Rattle.settings.specs.declared.terms.Terms.{Terms}
 use Rattle.place.specs.Message.{Routed}

@@ -2,7 +2,7 @@
 use Rattle.std.specs.Prelude.{ℕ, Bool, List, [], None, Option, Some}
 use Rattle.room.specs.Room.{bytes_in}
 use Rattle.room.specs.declared.Message.TheVariants as message
-use Rattle.exchange.specs.Reading.{own_reading, incoming_reading, reads_incoming, reads_own}
+use Rattle.exchange.specs.Reading.{own_reading, incoming_reading}
 use Rattle.exchange.specs.Request.{is_sending}
 use Rattle.exchange.specs.declared.Sending.{Sending}
 use Rattle.exchange.specs.declared.OwnReading.{OwnReading}

@@ -5,7 +5,7 @@ use Rattle.wire.specs.Bytes.{part}
 use Rattle.wire.specs.Lent.{on_front}
 use Rattle.header.specs.Header.{first_ten}
 use Rattle.settings.specs.declared.terms.Terms.{Terms}
-use Rattle.cut.specs.Blocks.{block_count, cut_of, cut_at}
+use Rattle.cut.specs.Blocks.{block_count, cut_of}
 use Rattle.cut.specs.declared.Cut.{Cut}
 use Rattle.block.specs.Block.{block_of}
 use Rattle.room.specs.Room.{bytes_in}

@@ -17,7 +17,7 @@ use Rattle.place.specs.declared.Standing.TheVariants.{Free, Open, Given}
 use Rattle.room.specs.Room.{bytes_in}
 use Rattle.room.specs.declared.Message.TheVariants as message
 use Rattle.exchange.specs.Exchange.{own_place, incoming_place}
-use Rattle.exchange.specs.Reading.{header_by, stage_by, has_ended, reads_incoming, reads_own}
+use Rattle.exchange.specs.Reading.{header_by, stage_by, has_ended}
 use Rattle.exchange.specs.Rules.{OfReply, OfMessage, FreeAt}
 use Rattle.exchange.specs.Theorems.{Reached as ExchangeReached}
 use Rattle.exchange.specs.declared.OwnReading.{OwnReading}

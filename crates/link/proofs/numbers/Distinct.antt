@@ -16,7 +16,7 @@ use Rattle.place.proofs.Verdicts.{request_shown, free_exactly as free_exactly'}
 use Rattle.exchange.specs.Exchange.{own_place, sent_from}
 use Rattle.exchange.specs.Assembly.{expects_at}
 use Rattle.exchange.specs.Request.{primary}
-use Rattle.exchange.specs.Reading.{own_reading, reads_own}
+use Rattle.exchange.specs.Reading.{own_reading}
 use Rattle.exchange.specs.Numbers.{number_shown, NumbersAre, in_use, NumberNew}
 use Rattle.exchange.proofs.Numbering.{numbers_fresh, numbers_of, own_numbers, number_distinct}
 use Rattle.exchange.proofs.Runs.{four_places}

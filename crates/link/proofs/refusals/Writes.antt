@@ -19,7 +19,7 @@ use Rattle.room.proofs.Areas.{lies_exactly}
 use Rattle.room.proofs.Reading.{bytes_read, nothing_read}
 use Rattle.room.specs.declared.Message.{Message}
 use Rattle.room.specs.declared.Message.TheVariants as message
-use Rattle.cut.specs.Blocks.{cut_of, cut_at}
+use Rattle.cut.specs.Blocks.{cut_of}
 use Rattle.cut.proofs.Cutting.{cut_blocks}
 use Rattle.cut.specs.declared.Cut.{Cut}
 use Rattle.block.specs.Block.{framed, block_of}

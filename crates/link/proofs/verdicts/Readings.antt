@@ -16,7 +16,6 @@ use Rattle.link.specs.Reading.{own_of, incoming_of, reply_by, message_by}
 use Rattle.link.specs.Verdicts.{reply_in, FreeAsRead, length_by, DataRead, SendingRead}
 use Rattle.link.proofs.verdicts.Messages.{none_read}
 use Rattle.link.proofs.verdicts.Own.{standing_read}
-use Rattle.exchange.specs.Reading.{reads_incoming, reads_own}
 
 reply_shown : (r : Option OwnReading) (room : List ℕ) (p : ℕ) → reply_by r room p ≡ bytes_in room (message.Reply p) 0 (reply_in r).length
 reply_shown None room p = sym (none_of room (message.Reply p) 0)
