@@ -103,13 +103,11 @@ fn put_answer(number: u8, bytes: &[u8], note: u8, text: &mut [u8]) -> usize
 }
 
 // Whether so many bytes in hex, or `-`, and the space behind them have room.
+#[tactic(auto, unfolding(script::specs::Printed::data_fits))]
 fn data_fits(count: usize, room: usize) -> bool
     ensures { result ≡ data_fits count room }
 {
-    if room < 2 {
-        return false;
-    }
-    count <= (room - 1) / 2
+    2 <= room && count <= (room - 1) / 2
 }
 
 fn print_answer(number: u8, bytes: &[u8], note: u8, text: &mut [u8]) -> usize
