@@ -6,7 +6,6 @@ use Rattle.wire.specs.Sum.{checksum_of}
 use Rattle.block.specs.Block.{block_of, write_of, read_of}
 use Rattle.block.specs.declared.Refusal.TheVariants.{BlockLength}
 use Rattle.block.specs.declared.Refusal.{Refusal}
-use Rattle.block.specs.Block.{was_read}
 
 -- the answer to writing N bytes: the first header of 01's listing, and as many zeros as N leaves behind it
 abbrev pub written : ℕ → ℕ → Result ℕ Refusal
@@ -25,6 +24,6 @@ pub record BlockTable : Type 0 where
   pub writes_254 : written 254 244 ≡ Ok 257
   pub writes_255 : written 255 245 ≡ Err BlockLength
   pub reads_9 : read_of (9 ∷ replicate 11 0) ≡ Err BlockLength
-  pub reads_10 : read_of (10 ∷ replicate 12 0) ≡ was_read (header_of (replicate 10 0)) 10
-  pub reads_254 : read_of (254 ∷ replicate 256 0) ≡ was_read (header_of (replicate 254 0)) 254
+  pub reads_10 : read_of (10 ∷ replicate 12 0) ≡ Ok (record { header = header_of (replicate 10 0); length = 10 })
+  pub reads_254 : read_of (254 ∷ replicate 256 0) ≡ Ok (record { header = header_of (replicate 254 0); length = 254 })
   pub reads_255 : read_of (255 ∷ replicate 257 0) ≡ Err BlockLength

@@ -7,7 +7,6 @@ use Rattle.wire.specs.Sum.{checksum_of}
 use Rattle.block.specs.Block.{with_sum, block_of, GoodLength, written_number, write_of, read_number, read_of, data_in}
 use Rattle.block.specs.declared.Refusal.{Refusal}
 use Rattle.block.specs.declared.Refusal.TheVariants.{ChecksumDiffers}
-use Rattle.block.specs.Block.{was_read}
 
 -- "A block on the line: length N (10 to 254), N bytes, then the 16-bit sum of those N bytes, high byte first.": the N bytes are the ten of
 -- the header and the data behind them
@@ -54,14 +53,16 @@ pub record ReadTable (line : List ℕ) : Type 0 where
   pub one : read_number (read_of line) ≡ 1 → ⊥
   pub twelve : (read_number (read_of line) ≡ 12) ↔ (GoodLength (get_or line 0 0) (length line - 3) → ⊥)
   pub thirteen : (read_number (read_of line) ≡ 13) ↔ (GoodLength (get_or line 0 0) (length line - 3) × (GoodBlock line (get_or line 0 0) → ⊥))
-  pub taken : (h : Header) (n : ℕ) → (read_of line ≡ was_read h n) ↔ (GoodBlock line n × (h ≡ header_of (part 1 (n + 1) line)))
+  pub taken : (h : Header) (n : ℕ) → (read_of line ≡ Ok (record { header = h; length = n })) ↔ (GoodBlock line n × (h ≡ header_of (part 1 (n + 1) line)))
 
 abbrev pub ReadRefuses : Type 0
 ReadRefuses = (line : List ℕ) → ReadTable line
 
 -- The data of a good block is what stands between its header and its sum, as it stands there; of a refused one none is handed out.
 pub record DataOf (line : List ℕ) : Type 0 where
-  pub good : (h : Header) (n : ℕ) → read_of line ≡ was_read h n → data_in (read_of line) line ≡ take (n - 10) (drop 11 line)
+  pub good :
+      (h : Header) (n : ℕ) → read_of line ≡ Ok (record { header = h; length = n })
+      → data_in (read_of line) line ≡ take (n - 10) (drop 11 line)
   pub refused : (r : Refusal) → read_of line ≡ Err r → data_in (read_of line) line ≡ []
 
 abbrev pub DataRead : Type 0
@@ -71,7 +72,7 @@ DataRead = (line : List ℕ) → DataOf line
 abbrev pub ReadOfWritten : Type 0
 ReadOfWritten =
     (n m : ℕ) (h : Header) (d out : List ℕ) → InRange h → (write_of n h d out).answer ≡ Ok m
-    → (read_of (take m (write_of n h d out).out) ≡ was_read h n)
+    → (read_of (take m (write_of n h d out).out) ≡ Ok (record { header = h; length = n }))
     × (data_in (read_of (take m (write_of n h d out).out)) (take m (write_of n h d out).out) ≡ d)
 
 -- bit k of x changed

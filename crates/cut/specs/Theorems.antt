@@ -2,7 +2,7 @@
 use Rattle.std.specs.Prelude.{ℕ, zero, suc, ◌+◌, ◌-◌, ◌*◌, ◌≤◌, ◌<◌, ◌≡◌, true, List, [], ◌++◌, ◌↔◌, length, Option, None, Some}
 use Rattle.wire.specs.Bytes.{part}
 use Rattle.wire.specs.Message.{message_limit}
-use Rattle.cut.specs.Blocks.{block_count, most_blocks, cut_of, cut_at}
+use Rattle.cut.specs.Blocks.{block_count, most_blocks, cut_of}
 use Rattle.header.specs.Theorems.{SameElse}
 use Rattle.header.specs.declared.header.Header.{Header}
 use Rattle.cut.specs.declared.Cut.{Cut}
@@ -35,7 +35,9 @@ pub record BlockOfMessage (h : Header) (n k : ℕ) (of : Header) (start size : �
   pub within : start + size ≤ n
 
 abbrev pub CutBlocks : Type 0
-CutBlocks = (h of : Header) (n k start size : ℕ) → cut_of h n k ≡ cut_at of start size → BlockOfMessage h n k of start size
+CutBlocks =
+    (h of : Header) (n k start size : ℕ) → cut_of h n k ≡ Some (record { header = of; start = start; length = size })
+    → BlockOfMessage h n k of start size
 
 -- a block's part of the message
 abbrev pub part_in : Option Cut → List ℕ → List ℕ
@@ -44,7 +46,9 @@ part_in None d = []
 
 -- and it is as long as the cut says
 abbrev pub CutParts : Type 0
-CutParts = (h of : Header) (d : List ℕ) (k start size : ℕ) → cut_of h (length d) k ≡ cut_at of start size → length (part_in (cut_at of start size) d) ≡ size
+CutParts =
+    (h of : Header) (d : List ℕ) (k start size : ℕ) → cut_of h (length d) k ≡ Some (record { header = of; start = start; length = size })
+    → length (part start (start + size) d) ≡ size
 
 -- the parts of blocks 1 to k, joined
 unfoldable pub joined : Header → List ℕ → ℕ → List ℕ
