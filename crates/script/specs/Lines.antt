@@ -1,13 +1,13 @@
 -- The lines of bench as 01 writes them ("Bench program and proved table"), and that a line is read exactly if it is one of these. They are
 -- put together from fields, and taken apart nowhere; what a field says is `Says` and `TextSays` of crate `text`. Proved in
 -- `proofs/Lines.antt`.
-use Rattle.std.specs.Prelude.{ℕ, ◌+◌, ◌/◌, ◌%◌, ◌≤◌, ◌<◌, ◌≡◌, Bool, true, false, List, [], ◌∷◌, ◌++◌, length, Some}
+use Rattle.std.specs.Prelude.{ℕ, ◌+◌, ◌/◌, ◌%◌, ◌≤◌, ◌<◌, ◌≡◌, Bool, true, false, List, [], ◌∷◌, ◌++◌, length, Some, None}
 use Rattle.wire.specs.Bytes.{Bytes as AreBytes}
 use Rattle.wire.specs.Lent.{on_front}
 use Rattle.exchange.specs.declared.Primary.{Primary}
 use Rattle.link.specs.declared.Setup.{Setup}
 use Rattle.text.specs.Theorems.{Says, TextSays}
-use Rattle.script.specs.Command.{told, unread, line_read}
+use Rattle.script.specs.Command.{line_read}
 use Rattle.script.specs.Printed.{data_text}
 use Rattle.script.specs.declared.Command.{Command}
 use Rattle.script.specs.declared.Command.TheVariants.{Start, Open, Reply, ReleaseOwn, ReleaseIncoming, Bytes, Ticks, Drained, Verdict, Dropped}
@@ -124,9 +124,11 @@ pub record OneOf (line : List ℕ) : Type 0 where
 -- Each line is read as what it is, with its bytes at the front of the memory that is lent for them; "A line it can't read .., over 1,024
 -- bytes" is one that can't be read, and nothing else is.
 pub record LineRead (line lent : List ℕ) : Type 0 where
-  pub said : (o : Order) → LineIs line o → length line ≤ 1024 → line_read line lent ≡ told (Some (command_of o)) (on_front (bytes_of o) lent)
-  pub unsaid : (OneOf line → ⊥) → line_read line lent ≡ unread lent
-  pub long : 1024 < length line → line_read line lent ≡ unread lent
+  pub said :
+      (o : Order) → LineIs line o → length line ≤ 1024
+      → line_read line lent ≡ record { command = Some (command_of o); bytes = on_front (bytes_of o) lent }
+  pub unsaid : (OneOf line → ⊥) → line_read line lent ≡ record { command = None; bytes = lent }
+  pub long : 1024 < length line → line_read line lent ≡ record { command = None; bytes = lent }
 
 abbrev pub LinesRead : Type 0
 LinesRead = (line lent : List ℕ) → LineRead line lent
@@ -187,6 +189,6 @@ pub record OrdersWritten : Type 0 where
   -- written and read back, all its values and bytes
   pub back :
       (o : Order) → Within o → length (written o) ≤ 1024
-      → (lent : List ℕ) → line_read (written o) lent ≡ told (Some (command_of o)) (on_front (bytes_of o) lent)
+      → (lent : List ℕ) → line_read (written o) lent ≡ record { command = Some (command_of o); bytes = on_front (bytes_of o) lent }
   -- a line that is one of 01's is for an order within the limits
   pub within : (line : List ℕ) (o : Order) → LineIs line o → Within o
