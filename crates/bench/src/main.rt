@@ -8,6 +8,9 @@
 mod answer;
 mod run;
 
+ghost use Rattle.std.specs.Prelude.{◌≡◌};
+ghost use Rattle.talk.specs.Listing.{silence};
+
 use answer::first;
 use link::Link;
 use script::Printed;
@@ -30,7 +33,10 @@ struct Session {
 }
 
 impl Session {
-    fn new() -> Session {
+    // Before the first line there is no unit: that is where what `talk` says of lines begins.
+    fn new() -> Session
+        ensures { result.bench ≡ silence.now.shown.bench }
+    {
         Session {
             bench: None,
             line: [0; 1025],

@@ -17,9 +17,7 @@ fn owns_in_range(own: [Own; 4]) -> bool
 fn incomings_in_range(incoming: [Incoming; 4]) -> bool
     ensures { result ≡ incomings_in_range incoming }
 {
-    incoming
-        .into_iter()
-        .all(|place| life::incoming_in_range(place))
+    incoming.iter().all(|place| life::incoming_in_range(*place))
 }
 
 // The place of the message being sent is one of four, and its data fits the send area.

@@ -18,6 +18,8 @@ mod text;
 mod traffic;
 mod trial;
 
+ghost use Rattle.std.specs.Prelude.{◌≤◌, length, IfOk};
+
 use std::io;
 use std::io::Read;
 
@@ -39,7 +41,7 @@ impl Line {
             Some(line) => run::answer(rt, line)?,
             None => show::unreadable(rt)?,
         }
-        print!(rt; "\n")
+        rt.write_all(b"\n")
     }
 
     fn text(&self) -> Option<&[u8]> {
@@ -69,12 +71,28 @@ impl Line {
     }
 }
 
+// Reads until the piece is full or the input ends, and gives back how many bytes were put at the start of the piece. Nothing is
+// answered before: who writes all of the input before the answers are read does not wait for ever, as long as it fits in a piece.
+fn read_full(input: &mut impl Read, piece: &mut [u8]) -> io::Result<usize>
+    ensures { IfOk result (λ n. n ≤ length piece.new) }
+{
+    let mut done: usize = 0;
+    while done < piece.len() {
+        let n = input.read(&mut piece[done..])?;
+        if n == 0 {
+            return Ok(done);
+        }
+        done += n;
+    }
+    Ok(done)
+}
+
 // Reads the whole input, and answers the lines that end in it. A loop has to end, and nothing says that the input does, so the
 // loop counts to a number that no run comes to.
 fn take_input(rt: &impl Print, input: &mut impl Read, line: &mut Line) -> io::Result<()> {
     let mut piece = [0; 65536];
     for _ in 0..u64::MAX {
-        let n = input.read(&mut piece)?;
+        let n = read_full(input, &mut piece)?;
         if n == 0 {
             break;
         }

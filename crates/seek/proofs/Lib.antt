@@ -1,4 +1,3 @@
--- `Maps` has the law of a `map` over four places, `Positions` what `position` finds; `Determined`: what each public contract determines.
-pub mod Maps
+-- `Positions` has what `position` finds; `Determined`: what each public contract determines.
 pub mod Positions
 pub mod Determined

@@ -52,9 +52,15 @@ pub fn open_alike(incoming: [Incoming; 4], header: Header) -> Option<usize>
     first(incoming.map(|place| alike(place, header)))
 }
 
-// A tick at each place.
+// A tick at each place. The places are named: `map` moves an incoming one to and fro, which doubles what a tick costs.
 pub fn tick_incoming(incoming: [Incoming; 4], terms: Terms) -> [Incoming; 4]
     ensures { result ≡ ticked_incoming terms incoming }
 {
-    incoming.map(|place| incoming::tick(place, terms))
+    let [a, b, c, d] = incoming;
+    [
+        incoming::tick(a, terms),
+        incoming::tick(b, terms),
+        incoming::tick(c, terms),
+        incoming::tick(d, terms),
+    ]
 }

@@ -18,6 +18,8 @@ mod loops;
 mod ready;
 mod text;
 
+ghost use Rattle.std.specs.Prelude.{◌≤◌, length};
+
 use std::io;
 use std::rt::Env;
 
@@ -39,7 +41,9 @@ fn run(rt: &impl Print, word: &[u8], turns: u64) -> io::Result<()> {
 }
 
 // Copies an argument to the start of `word`, and gives it back. One that is missing or too long is empty.
-fn argument<'a>(rt: &impl Env, at: usize, word: &'a mut [u8]) -> &'a [u8] {
+fn argument<'a>(rt: &impl Env, at: usize, word: &'a mut [u8]) -> &'a [u8]
+    ensures { length result.now ≤ length word.old }
+{
     match rt.arg(at, word) {
         Ok(length) => &word[..length],
         Err(_) => &[],
