@@ -27,7 +27,7 @@ use Rattle.exchange.specs.Reports.{outbox_of}
 use Rattle.exchange.specs.Tick.{tick_of}
 use Rattle.exchange.specs.Send.{reply_to}
 use Rattle.exchange.specs.Judge.{Judging, judge_of}
-use Rattle.exchange.specs.Reading.{wanted, own_reading, incoming_reading, reads_incoming, reads_own}
+use Rattle.exchange.specs.Reading.{wanted, own_reading, incoming_reading}
 use Rattle.exchange.specs.Rules.{Fours, Duplicate, AlikeHere, FreeAt, FreeHere}
 use Rattle.exchange.specs.History.{Track}
 use Rattle.exchange.specs.Theorems.{Reached}
@@ -137,7 +137,7 @@ pub record Assembled (c : Terms) (pauses : ℕ → ℕ) (x : Exchange) (h : Head
   pub flags : r.flags ≡ replicate (block_count (length d) - 1) no_flags ++ (incoming_flags place true false ∷ [])
   -- it shows a complete message of as many bytes, to which a reply is owed if W = 1
   pub primary : Header
-  pub complete : incoming_reading r.exchange place ≡ reads_incoming primary (length d) true (wanted h)
+  pub complete : incoming_reading r.exchange place ≡ Some (record { primary = primary; length = length d; complete = true; reply = wanted h })
   -- its R, device ID, W, stream, function and system bytes are the same
   pub same : SameElse primary h
   -- its area begins with the same bytes
@@ -195,7 +195,7 @@ pub record ReplyAssembled (c : Terms) (pauses : ℕ → ℕ) (v : Verdict) (x : 
   -- the last raised the flag that place p got a verdict, and no other; those before it raised none
   pub flags : r.flags ≡ replicate (block_count (length d) - 1) no_flags ++ (verdict_flag p true ∷ [])
   -- place p shows the primary, the verdict, and W, stream and function of the reply and as many bytes
-  pub verdict : own_reading r.exchange p ≡ reads_own g (Given v) (reply_of h (length d))
+  pub verdict : own_reading r.exchange p ≡ Some (record { primary = g; standing = Given v; reply = reply_of h (length d) })
   -- its area begins with the same bytes
   pub bytes : front r.room (message.Reply p) (length d) ≡ d
   -- every other place is as the ticks alone leave it; where these have nothing reported of another place, what is being sent is as it was, if

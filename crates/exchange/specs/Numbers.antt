@@ -11,7 +11,7 @@ use Rattle.place.specs.declared.Standing.TheVariants.{Free, Open, Given}
 use Rattle.place.specs.declared.Reply.{Reply}
 use Rattle.table.specs.Number.{next_number}
 use Rattle.exchange.specs.Reports.{same_message}
-use Rattle.exchange.specs.Reading.{own_reading, reads_own}
+use Rattle.exchange.specs.Reading.{own_reading}
 use Rattle.exchange.specs.Request.{open_of, Request, primary, reply, freeing_own, freeing_incoming, answer_of}
 use Rattle.exchange.specs.Rules.{Fours}
 use Rattle.exchange.specs.Refusals.{number_given}
@@ -192,8 +192,8 @@ pub record Got (before after : Option OwnReading) : Type 0 where
   pub header : Header
   pub verdict : Verdict
   pub reply : Reply
-  pub none_before : (h : Header) (v : Verdict) (r : Reply) → before ≢ reads_own h (Given v) r
-  pub now : after ≡ reads_own header (Given verdict) reply
+  pub none_before : (h : Header) (v : Verdict) (r : Reply) → before ≢ Some (record { primary = h; standing = Given v; reply = r })
+  pub now : after ≡ Some (record { primary = header; standing = Given verdict; reply = reply })
 
 -- not by the end of its primary's sending
 pub record NotByLine (v : Verdict) : Type 0 where

@@ -4,7 +4,7 @@
 use Rattle.std.specs.Prelude.{ℕ, ◌+◌, ◌≤◌, ◌<◌, ◌≡◌, Bool, true, false, List, [], ◌∷◌, ◌≢◌, ◌⊎◌, length, Some}
 use Rattle.header.specs.declared.header.Header.{Header}
 use Rattle.wire.specs.Message.{message_limit}
-use Rattle.cut.specs.Blocks.{most_blocks, block_count, part_start, part_length, header_at, cut_of, cut_at}
+use Rattle.cut.specs.Blocks.{most_blocks, block_count, part_start, part_length, header_at, cut_of}
 use Rattle.block.specs.Block.{block_of}
 use Rattle.room.specs.Room.{bytes_in}
 use Rattle.room.specs.declared.Message.TheVariants as message
@@ -206,7 +206,7 @@ pub record Whole (t : Track) : Type 0 where
   pub size : ℕ
   pub sent : outgoing_of t.link.exchange ≡ outgoing.Message header size
   pub block :
-      cut_of header size t.link.block ≡ cut_at (header_at header size t.link.block) (part_start t.link.block) (part_length size t.link.block)
+      cut_of header size t.link.block ≡ Some (record { header = header_at header size t.link.block; start = part_start t.link.block; length = part_length size t.link.block })
   -- its header, and its part of the send area
   pub bytes :
       (room : List ℕ)

@@ -34,7 +34,6 @@ use Rattle.link.specs.declared.Note.TheVariants as note
 use Rattle.link.specs.declared.Setup.{Setup}
 use Rattle.link.specs.declared.Settings.{Settings}
 use Rattle.link.specs.declared.Link.{Link}
-use Rattle.exchange.specs.Reading.{reads_incoming, reads_own}
 
 -- ---- one end
 
@@ -271,7 +270,7 @@ pub record AsAsked (q : Primary) (h : Header) : Type 0 where
 
 -- Own place q of this end awaits the reply to a primary with header g.
 pub record Awaited (a : Track) (q : ℕ) (g : Header) : Type 0 where
-  pub shown : own_of a.link q ≡ reads_own g Open no_reply
+  pub shown : own_of a.link q ≡ Some (record { primary = g; standing = Open; reply = no_reply })
   -- its onlooker has seen the ACK of its last block, and no block of a reply since
   pub acknowledged : (a.own q).request ≡ seen.acknowledged
   pub none : (a.own q).kept ≡ []
@@ -288,13 +287,13 @@ pub record Delivered (o : List ℕ) (q : Primary) (d : List ℕ) (h : Header) (p
   pub quiet : Quiet z
   pub again : Again o z.sender z.receiver
   -- own place p of its sender has it: a reply is awaited, or "1 sent (W = 0, all acknowledged)"
-  pub standing : own_of z.sender.link p ≡ reads_own h (cond q.w Open (Given Sent)) no_reply
+  pub standing : own_of z.sender.link p ≡ Some (record { primary = h; standing = cond q.w Open (Given Sent); reply = no_reply })
   -- ".. and T3 runs, from the ACK of the primary's last block.": that ACK came in the last call
   pub awaited : q.w ≡ true → Awaited again.here p h × ((again.here.own p).since ≡ 0)
   -- a place of its receiver shows a complete message of as many bytes, to which a reply is owed if W = 1
   pub place : ℕ
   pub message : Header
-  pub complete : incoming_of z.receiver.link place ≡ reads_incoming message (length d) true (cond q.w reply.Owed reply.NotOwed)
+  pub complete : incoming_of z.receiver.link place ≡ Some (record { primary = message; length = length d; complete = true; reply = cond q.w reply.Owed reply.NotOwed })
   -- R, device ID, W, stream, function and system bytes are the same
   pub same : SameElse message h
   -- and so are the bytes
@@ -313,7 +312,7 @@ pub record GoesOut (a b : Track) (room far o : List ℕ) (q : Primary) (d : List
   -- place p shows what was asked for
   pub header : Header
   pub as_asked : AsAsked q header
-  pub shown : own_of (open_call a.link q d room o).answer.link p ≡ reads_own header Open no_reply
+  pub shown : own_of (open_call a.link q d room o).answer.link p ≡ Some (record { primary = header; standing = Open; reply = no_reply })
   -- If the far end has a place for it (`ReadyFor`, exchange/specs/Assembly.antt), it comes there, whatever the pauses as long as no timer runs
   -- out: T3 of another transaction neither, at the end that would report it (`NoneLate`, exchange/specs/Assembly.antt).
   pub delivered :
@@ -324,7 +323,7 @@ pub record GoesOut (a b : Track) (room far o : List ℕ) (q : Primary) (d : List
 -- Incoming place p of this end shows a complete message with header g of n bytes.
 pub record Shown (b : Track) (p : ℕ) (g : Header) (n : ℕ) : Type 0 where
   pub stage : ReplyStage
-  pub so : incoming_of b.link p ≡ reads_incoming g n true stage
+  pub so : incoming_of b.link p ≡ Some (record { primary = g; length = n; complete = true; reply = stage })
 
 -- a reply of function f and data r as it can be asked for
 pub record TypedReply (f : ℕ) (r : List ℕ) : Type 0 where
@@ -338,13 +337,13 @@ pub record Returned (o : List ℕ) (v : Verdict) (p q f : ℕ) (r : List ℕ) (g
   pub quiet : Quiet z
   pub again : Again o z.receiver z.sender
   -- own place q shows the primary, the verdict, and the stream, function and length of the reply; "A reply of ours has W = 0"
-  pub verdict : own_of z.receiver.link q ≡ reads_own h (Given v) (record { w = false; stream = h.stream; function = f; length = length r })
+  pub verdict : own_of z.receiver.link q ≡ Some (record { primary = h; standing = Given v; reply = record { w = false; stream = h.stream; function = f; length = length r } })
   -- its bytes are the same
   pub bytes : reply_data z.receiver.link z.receiver.room q ≡ r
   -- "Kept: note 21", each of the blocks; nothing else is noted at either end
   pub notes : z.notes ≡ replicate (block_count (length r)) 21
   -- "A reply of ours ends sent .. in its incoming place.", where the message still is
-  pub replied : incoming_of z.sender.link p ≡ reads_incoming g n true reply.Sent
+  pub replied : incoming_of z.sender.link p ≡ Some (record { primary = g; length = n; complete = true; reply = reply.Sent })
   pub still : incoming_data z.sender.link z.sender.room p ≡ bs
   -- every other place of its receiver is what ticks alone leave of it
   pub others : (k : ℕ) → k ≢ q → own_of z.receiver.link k ≡ own_of alone k
