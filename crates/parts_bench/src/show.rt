@@ -17,7 +17,7 @@ impl fmt::Display for Hex<'_> {
     }
 }
 
-// What a line that can't be read is answered by. As bytes: a format takes longer than the line.
+// What a line that can't be read is answered by. As bytes: a format is half of what such a line costs.
 pub(crate) fn unreadable(rt: &impl Print) -> io::Result<()> {
     rt.write_all(b"?")
 }
